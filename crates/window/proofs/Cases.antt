@@ -1,0 +1,12 @@
+-- The starred cases hold: one computation of the reference model over the one list of calls.
+-- Assumes nothing.
+use mathlib.Core.Path.{_≡_, refl}
+use mathlib.Core.List.{map}
+use Rattle.window.specs.Queries.{phase}
+use Rattle.window.specs.Refusals.{fieldChecks, listChecks, registerChecks, withdrawChecks, readingChecks}
+use Rattle.window.specs.Model.{initial, run, standingAt, closingComparisons, closeAt, closeWhere, enrolled, afterRegister, afterWithdraw, appended, closeAtEdge, afterReading, answer, answers, answered, counted, step}
+use Rattle.window.specs.Cases.{starred, callOf, returnedOf}
+
+pub starred-cases : (run initial (map callOf starred)) .outcomes ≡ map returnedOf starred
+unfolding phase fieldChecks listChecks registerChecks withdrawChecks readingChecks standingAt closingComparisons closeAt closeWhere enrolled afterRegister afterWithdraw appended closeAtEdge afterReading answer answers answered counted step
+starred-cases = refl

@@ -1,0 +1,13 @@
+pub mod Cases
+pub mod Lists
+pub mod Orders
+pub mod Queries
+pub mod Refusals
+pub mod Standing
+pub mod Tiling
+pub mod Tracking
+pub mod Comparisons
+pub mod Preserved
+pub mod Windows
+pub mod Bounds
+pub mod Steps

@@ -1,0 +1,122 @@
+-- The laws of the checks: what holds of a call that passes them, and that the fields which pass are those within the limits.
+-- Assumes nothing.
+use mathlib.Core.Path.{_≡_, refl, sym}
+use mathlib.Core.Bool.{Bool, true, false, _||_, cond}
+use mathlib.Core.List.{List, [], _∷_}
+use Prim.Native.Nat.{ℕ, _+_, _*_, _≤_, _<_}
+use native.Mathlib.Omega.{arith}
+use lib.Dec.{leb}
+use lib.ListN.{length}
+use borrow.Author.Tests.{leb-true, leb-false, le-leb, ltb-false, not-false}
+use Rattle.window.specs.declared.query.Query.{Query}
+use Rattle.window.specs.declared.refusal.Refusal.{Refusal}
+use Rattle.window.specs.declared.refusal.Verdict.the-variants.{Passed, Refused}
+use Rattle.window.specs.Lists.{any, Each}
+use Rattle.window.specs.Queries.{Limits, queryLimit, countLimit}
+use Rattle.window.specs.Refusals.{Check, firstRefusal, within, applying, isRegistered, dueAt, answerPlaces, fieldChecks, listChecks, registerChecks, readingChecks}
+use Rattle.window.proofs.Lists.{and-left, and-right, or-neither}
+
+-- a check of the list does not apply
+abbrev Idle : Check → Type 0
+Idle c = c .applies ≡ false
+
+refused-passed : {X : Type 0} (r : Refusal) → Refused r ≡ Passed → X
+refused-passed r e = let z : _≡_ {A = ℕ} 0 1 = cc in absurd (omega arith)
+
+-- where the checks pass, none applies
+passed-idle : (cs : List Check) → firstRefusal cs ≡ Passed → Each Idle cs
+passed-idle [] e = tt
+passed-idle (c ∷ cs) e = go (c .applies) e (λ k. passed-idle cs k)
+  where
+    go : (b : Bool) → cond b (Refused (c .refusal)) (firstRefusal cs) ≡ Passed → (firstRefusal cs ≡ Passed → Each Idle cs) → (b ≡ false) × Each Idle cs
+    go true k ih = refused-passed (c .refusal) k
+    go false k ih = (refl, ih k)
+
+-- the checks pass exactly where none applies, as `any` tests it
+pub applies-none : (cs : List Check) → firstRefusal cs ≡ Passed → any applying cs ≡ false
+applies-none [] e = refl
+applies-none (c ∷ cs) e =
+    let a = passed-idle (c ∷ cs) e in
+    or-neither (c .applies) (any applying cs) (a .0) (applies-none cs (rw (a .0) at e))
+
+pub applies-some : (cs : List Check) (r : Refusal) → firstRefusal cs ≡ Refused r → any applying cs ≡ true
+applies-some [] r e = refused-passed r (sym e)
+applies-some (c ∷ cs) r e = go (c .applies) e (λ k. applies-some cs r k)
+  where
+    go : (b : Bool) → cond b (Refused (c .refusal)) (firstRefusal cs) ≡ Refused r → (firstRefusal cs ≡ Refused r → any applying cs ≡ true)
+        → (b || any applying cs) ≡ true
+    go true k ih = refl
+    go false k ih = ih k
+
+within-low : (low high x : ℕ) → within low high x ≡ true → low ≤ x
+within-low low high x h = leb-true low x (and-left (leb low x) (leb x high) h)
+
+within-high : (low high x : ℕ) → within low high x ≡ true → x ≤ high
+within-high low high x h = leb-true x high (and-right (leb low x) (leb x high) h)
+
+within-both : (low high x : ℕ) → low ≤ x → x ≤ high → within low high x ≡ true
+within-both low high x l h = rw (le-leb low x l, le-leb x high h)
+
+-- ---- fields
+
+-- what the checks of the fields leave
+fields-within : (q : Query) → Each Idle (fieldChecks (q .number) (q .kind) (q .range) (q .slide)) → Limits q
+unfolding fieldChecks
+fields-within q a =
+    let number = not-false _ (a .0) in
+    let kind = not-false _ (a .1 .0) in
+    let range = not-false _ (a .1 .1 .0) in
+    let slide = not-false _ (a .1 .1 .1 .0) in
+    record {
+      numberLow = within-low 1 65535 (q .number) number;
+      numberHigh = within-high 1 65535 (q .number) number;
+      kindLow = within-low 1 4 (q .kind) kind;
+      kindHigh = within-high 1 4 (q .kind) kind;
+      rangeLow = within-low 1 4096 (q .range) range;
+      rangeHigh = within-high 1 4096 (q .range) range;
+      slideLow = within-low 1 4096 (q .slide) slide;
+      slideHigh = within-high 1 4096 (q .slide) slide;
+    }
+
+-- `check_fields` passes just the fields within the limits
+pub fields-passed : (q : Query) → firstRefusal (fieldChecks (q .number) (q .kind) (q .range) (q .slide)) ≡ Passed → Limits q
+fields-passed q e = fields-within q (passed-idle (fieldChecks (q .number) (q .kind) (q .range) (q .slide)) e)
+
+pub limits-idle : (q : Query) → Limits q → any applying (fieldChecks (q .number) (q .kind) (q .range) (q .slide)) ≡ false
+unfolding fieldChecks
+limits-idle q g =
+    rw (
+      within-both 1 65535 (q .number) (g .numberLow) (g .numberHigh),
+      within-both 1 4 (q .kind) (g .kindLow) (g .kindHigh),
+      within-both 1 4096 (q .range) (g .rangeLow) (g .rangeHigh),
+      within-both 1 4096 (q .slide) (g .slideLow) (g .slideHigh),
+    )
+
+-- ---- a registration and a reading
+
+-- q can join the list
+pub record Joins (qs : List Query) (q : Query) : Type 0 where
+  pub limits : Limits q
+  pub new : isRegistered (q .number) qs ≡ false
+  pub room : length qs < queryLimit
+
+pub register-passed : (qs : List Query) (q : Query) → firstRefusal (registerChecks qs (q .number) (q .kind) (q .range) (q .slide)) ≡ Passed → Joins qs q
+unfolding registerChecks fieldChecks listChecks
+register-passed qs q e =
+    let a = passed-idle (registerChecks qs (q .number) (q .kind) (q .range) (q .slide)) e in
+    record {
+      limits = fields-within q (a .0, (a .1 .0, (a .1 .1 .0, (a .1 .1 .1 .0, tt))));
+      new = a .1 .1 .1 .1 .0;
+      room = leb-false 32 (length qs) (a .1 .1 .1 .1 .1 .0);
+    }
+
+-- a reading that passes can be counted, and its answers have room
+pub record Counts (n : ℕ) (qs : List Query) (places : ℕ) : Type 0 where
+  pub room : n < countLimit
+  pub answersFit : answerPlaces * length (dueAt (n + 1) qs) ≤ places
+
+pub reading-passed : (n : ℕ) (qs : List Query) (places : ℕ) → firstRefusal (readingChecks n qs places) ≡ Passed → Counts n qs places
+unfolding readingChecks
+reading-passed n qs places e =
+    let a = passed-idle (readingChecks n qs places) e in
+    record { room = leb-false 4294967295 n (a .0); answersFit = ltb-false places _ (a .1 .0) }

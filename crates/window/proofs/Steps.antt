@@ -1,0 +1,111 @@
+-- What a call does to the model beside keeping its invariant: a refused call changes nothing, the horizon never falls (I7), and the readings are
+-- those of the accepted readings.
+-- Assumes nothing.
+use mathlib.Core.Path.{_≡_, refl, sym, ap, _∙_}
+use mathlib.Core.Bool.{Bool, true, false, not}
+use mathlib.Core.Option.{Option, none, some}
+use mathlib.Core.List.{List, [], _∷_, _++_}
+use Prim.Native.Nat.{ℕ, _≤_}
+use native.Mathlib.Nat.{le-refl}
+use native.Mathlib.Omega.{arith}
+use lib.IntN.{ℤ}
+use lib.ListN.{length, length-append}
+use Rattle.window.specs.declared.query.Query.{Query}
+use Rattle.window.specs.declared.refusal.Verdict.{Verdict}
+use Rattle.window.specs.declared.refusal.Verdict.the-variants.{Passed, Refused}
+use Rattle.window.specs.Lists.{any, Each}
+use Rattle.window.specs.Queries.{edge, horizon}
+use Rattle.window.specs.Refusals.{firstRefusal, registerChecks, withdrawChecks, readingChecks, hasNumber}
+use Rattle.window.specs.Calls.{Call, start, register, withdraw, reading, totals, OfReading, Answer, accepted, refused}
+use Rattle.window.specs.Model.{State, count, closeAt, closeWhere, holdsReading, enrolled, afterRegister, afterWithdraw, appended, closeAtEdge, afterReading, Stepped, answers, answered, counted, judged, newQuery, step}
+use Rattle.window.proofs.Lists.{each-append}
+use Rattle.window.proofs.Queries.{horizon-later, horizon-more, horizon-fewer}
+use Rattle.window.proofs.Preserved.{judged-keeps}
+
+-- ---- a refused call changes nothing
+
+accepted-refused : {X : Type 0} (ns : List ℕ) (bs : List Answer) (k : ℕ) → accepted ns bs ≡ refused k → X
+accepted-refused ns bs k e = let z : _≡_ {A = ℕ} 0 1 = cc in absurd (omega arith)
+
+judged-refused : (v : Verdict) (s : State) (t : Stepped) (ns : List ℕ) (bs : List Answer) (k : ℕ) → t .outcome ≡ accepted ns bs
+    → (judged v s t) .outcome ≡ refused k → (judged v s t) .state ≡ s
+judged-refused Passed s t ns bs k a e = accepted-refused ns bs k (sym a ∙ e)
+judged-refused (Refused r) s t ns bs k a e = refl
+
+pub refused-unchanged : (s : State) (c : Call) (k : ℕ) → (step s c) .outcome ≡ refused k → (step s c) .state ≡ s
+unfolding step answered counted
+refused-unchanged s start k e = accepted-refused (0 ∷ []) [] k e
+refused-unchanged s (register number kind range slide) k e =
+    judged-refused (firstRefusal (registerChecks (s .queries) number kind range slide)) s _ (0 ∷ []) [] k refl e
+refused-unchanged s (withdraw number) k e =
+    judged-refused (firstRefusal (withdrawChecks (s .queries) number)) s _ (0 ∷ []) [] k refl e
+refused-unchanged s (reading v places) k e =
+    let given : List Answer = answers (afterReading s v) in
+    judged-refused (firstRefusal (readingChecks (count s) (s .queries) places)) s _ (length given ∷ []) given k refl e
+refused-unchanged s totals k e = refl
+
+-- ---- readings and queries
+
+-- a closing changes neither
+close-keeps : (b : Bool) (o : Option ℕ) (s : State) → ((closeWhere b o s) .readings ≡ s .readings) × ((closeWhere b o s) .queries ≡ s .queries)
+unfolding closeWhere closeAt
+close-keeps b none s = (refl, refl)
+close-keeps true (some a) s = (refl, refl)
+close-keeps false (some a) s = (refl, refl)
+
+pub reading-readings : (s : State) (v : ℤ) → (afterReading s v) .readings ≡ s .readings ++ (v ∷ [])
+unfolding afterReading closeAtEdge appended
+reading-readings s v = (close-keeps (any (edge (count (appended s v))) (s .queries)) (s .openStart) (appended s v)) .0
+
+pub reading-queries : (s : State) (v : ℤ) → (afterReading s v) .queries ≡ s .queries
+unfolding afterReading closeAtEdge appended
+reading-queries s v = (close-keeps (any (edge (count (appended s v))) (s .queries)) (s .openStart) (appended s v)) .1
+
+pub register-readings : (s : State) (q : Query) → (afterRegister s q) .readings ≡ s .readings
+unfolding afterRegister enrolled
+register-readings s q = (close-keeps (holdsReading (count s) (s .openStart)) (s .openStart) s) .0
+
+pub register-queries : (s : State) (q : Query) → (afterRegister s q) .queries ≡ s .queries ++ (q ∷ [])
+unfolding afterRegister enrolled
+register-queries s q = ap (λ (qs : List Query). qs ++ (q ∷ [])) ((close-keeps (holdsReading (count s) (s .openStart)) (s .openStart) s) .1)
+
+-- ---- every reading of the model was handed over by an accepted reading call
+
+pub step-readings : (P : ℤ → Type 0) (s : State) (c : Call) → OfReading P c → Each P (s .readings) → Each P ((step s c) .state .readings)
+unfolding step answered counted afterWithdraw
+step-readings P s start p h = tt
+step-readings P s (register number kind range slide) p h =
+    judged-keeps (λ (x : State). Each P (x .readings)) (firstRefusal (registerChecks (s .queries) number kind range slide)) s _ h
+    (λ e. rw (register-readings s (newQuery s number kind range slide)) h)
+step-readings P s (withdraw number) p h =
+    judged-keeps (λ (x : State). Each P (x .readings)) (firstRefusal (withdrawChecks (s .queries) number)) s _ h (λ e. h)
+step-readings P s (reading v places) p h =
+    judged-keeps (λ (x : State). Each P (x .readings)) (firstRefusal (readingChecks (count s) (s .queries) places)) s _ h
+    (λ e. rw (reading-readings s v) (each-append P (s .readings) (v ∷ []) h (p, tt)))
+step-readings P s totals p h = h
+
+-- ---- I7: the horizon never falls from call to call, but at a start
+
+-- the horizon of a state
+abbrev pub horizonOf : State → ℕ
+horizonOf s = horizon (count s) (s .queries)
+
+register-horizon : (s : State) (q : Query) → q .origin ≡ count s → horizonOf s ≤ horizonOf (afterRegister s q)
+register-horizon s q e = rw (register-readings s q, register-queries s q, horizon-more (count s) (s .queries) q e) (le-refl (horizonOf s))
+
+reading-horizon : (s : State) (v : ℤ) → horizonOf s ≤ horizonOf (afterReading s v)
+reading-horizon s v = rw (reading-readings s v, reading-queries s v, length-append (s .readings) (v ∷ [])) (horizon-later (count s) (s .queries))
+
+pub horizon-rises : (s : State) (c : Call) → (c ≡ start → ⊥) → horizonOf s ≤ horizonOf ((step s c) .state)
+unfolding step answered counted afterWithdraw
+horizon-rises s start n = absurd (n refl)
+horizon-rises s (register number kind range slide) n =
+    judged-keeps (λ (x : State). horizonOf s ≤ horizonOf x) (firstRefusal (registerChecks (s .queries) number kind range slide)) s _ (le-refl (horizonOf s))
+    (λ e. register-horizon s (newQuery s number kind range slide) refl)
+horizon-rises s (withdraw number) n =
+    judged-keeps (λ (x : State). horizonOf s ≤ horizonOf x) (firstRefusal (withdrawChecks (s .queries) number)) s _ (le-refl (horizonOf s))
+    (λ e. horizon-fewer (count s) (λ (q : Query). not (hasNumber number q)) (s .queries))
+horizon-rises s (reading v places) n =
+    judged-keeps (λ (x : State). horizonOf s ≤ horizonOf x) (firstRefusal (readingChecks (count s) (s .queries) places)) s _ (le-refl (horizonOf s))
+    (λ e. reading-horizon s v)
+horizon-rises s totals n = le-refl (horizonOf s)

@@ -1,0 +1,108 @@
+-- Windows from partials: the answers of a due query by the closed partials and by the standing ones (W1 and W5), and how many partials are
+-- live (W6). Facts for maxima and minima come from one argument over the order.
+-- Assumes nothing.
+use mathlib.Core.Path.{_≡_, refl, sym, ap, _∙_, subst}
+use mathlib.Core.Bool.{Bool, true, false, cond}
+use mathlib.Core.List.{List, [], _∷_, map}
+use Prim.Native.Nat.{ℕ, _-_, _≤_, _<_, max, zero-le}
+use native.Mathlib.Nat.{le-refl, lt-irrefl}
+use native.Mathlib.Omega.{arith}
+use lib.Dec.{leb}
+use lib.IntN.{ℤ, pos, _+ℤ_, +ℤ-assoc}
+use lib.ListN.{length}
+use lib.Seq.{length-slice}
+use borrow.Author.Tests.{leb-true}
+use Rattle.window.specs.declared.query.Query.{Query}
+use Rattle.window.specs.Orders.{Order, aggregate, greater, sum, extreme}
+use Rattle.window.specs.Queries.{Limits, lengthLimit, due, windowStart, windowCount, horizon}
+use Rattle.window.specs.Partials.{Partial, between, entry, entries, partialsFrom, entriesFrom, valueOf}
+use Rattle.window.specs.Standing.{standing, frontOf}
+use Rattle.window.specs.Model.{State, count, window}
+use Rattle.window.specs.Invariant.{Ordered, Tiles, Tracked, Invariant}
+use Rattle.window.proofs.Orders.{greater-assoc}
+use Rattle.window.proofs.Queries.{due-marks, window-marks, window-nonempty, horizon-far}
+use Rattle.window.proofs.Standing.{standing-from, standing-front}
+use Rattle.window.proofs.Tiling.{ordered-le, ordered-sorted, tiles-le, entries-from, aggregate-tiles}
+use Rattle.window.proofs.Tracking.{shape-ordered}
+
+-- ---- W1: the window of a due query is tiled by closed partials
+
+-- the open partial has just begun
+pub due-closed : (n : ℕ) (ps : List Partial) (a : ℕ) (q : Query) → a ≤ n → Tracked n ps a q → due n q ≡ true → a ≡ n
+due-closed n ps a q l t h = omega (arith, tiles-le n (partialsFrom n ps) a (t .tiled n (le-refl n) (due-marks n q h)))
+
+pub window-tiled : (n : ℕ) (ps : List Partial) (a : ℕ) (q : Query) → Limits q → a ≤ n → Tracked n ps a q → due n q ≡ true
+    → Tiles (windowStart n q) (partialsFrom (windowStart n q) ps) n
+window-tiled n ps a q g l t h =
+    let w : windowStart n q < n = window-nonempty n q g h in
+    subst (λ (x : ℕ). Tiles (windowStart n q) (partialsFrom (windowStart n q) ps) x) (due-closed n ps a q l t h)
+    (t .tiled (windowStart n q) (omega arith) (window-marks n q h))
+
+-- ---- a stretch of readings from a place from which the partials tile it
+
+module _ (rs : List ℤ) (m : ℕ) (ps : List Partial) (c : ℕ) (l : m < c) (k : c ≤ length rs) (t : Tiles m (partialsFrom m ps) c) where
+  -- its aggregate is that of the partials from there on
+  stretch-aggregate : (op : ℤ → ℤ → ℤ) (none : ℤ) → ((x y z : ℤ) → op (op x y) z ≡ op x (op y z))
+      → aggregate op none (between rs m c) ≡ aggregate op none (map valueOf (entriesFrom m (entries (aggregate op none) rs ps)))
+  stretch-aggregate op none assoc = rw (entries-from (aggregate op none) rs m ps) (go (partialsFrom m ps) t)
+    where
+      go : (qs : List Partial) → Tiles m qs c → aggregate op none (between rs m c) ≡ aggregate op none (map valueOf (entries (aggregate op none) rs qs))
+      go [] h = absurd (lt-irrefl c (rw h at l))
+      go (q ∷ qs) h = aggregate-tiles rs op none assoc m q qs c k h
+
+  -- its extreme is the value of the first standing entry from there on
+  stretch-extreme : (below : ℤ → ℤ → Bool) → Order below → Ordered 0 ps c
+      → extreme below (between rs m c) ≡ frontOf (pos 0) (entriesFrom m (standing below (entries (extreme below) rs ps)))
+  stretch-extreme below order o =
+      stretch-aggregate (greater below) (pos 0) (greater-assoc below order)
+      ∙ sym (ap (frontOf (pos 0)) (sym (standing-from below m (entries (extreme below) rs ps) (ordered-sorted (extreme below) rs 0 ps c o))) ∙ front)
+    where
+      go : (qs : List Partial) → frontOf (pos 0) (standing below (entries (extreme below) rs qs)) ≡ extreme below (map valueOf (entries (extreme below) rs qs))
+      go [] = refl
+      go (q ∷ qs) = standing-front below order (pos 0) (entry (extreme below) rs q) (entries (extreme below) rs qs)
+
+      front : frontOf (pos 0) (standing below (entriesFrom m (entries (extreme below) rs ps))) ≡ extreme below (map valueOf (entriesFrom m (entries (extreme below) rs ps)))
+      front = rw (entries-from (extreme below) rs m ps) (go (partialsFrom m ps))
+
+-- ---- W5: what a due query is answered, from partials
+
+-- the count needs no partials
+pub answer-count : (rs : List ℤ) (q : Query) → length (window rs q) ≡ windowCount (length rs) q
+answer-count rs q = length-slice (windowStart (length rs) q) (length rs) rs (le-refl (length rs))
+
+module _ (rs : List ℤ) (ps : List Partial) (a : ℕ) (q : Query) (g : Limits q) (l : a ≤ length rs) (t : Tracked (length rs) ps a q) (h : due (length rs) q ≡ true) where
+  -- the sum is the sum of the sums of the partials from the window start on
+  pub answer-sum : sum (window rs q) ≡ sum (map valueOf (entriesFrom (windowStart (length rs) q) (entries sum rs ps)))
+  answer-sum =
+      stretch-aggregate rs (windowStart (length rs) q) ps (length rs) (window-nonempty (length rs) q g h) (le-refl (length rs)) (window-tiled (length rs) ps a q g l t h)
+      _+ℤ_ (pos 0) +ℤ-assoc
+
+  -- the maximum, or the minimum, is the value of the first standing partial from the window start on
+  pub answer-extreme : (below : ℤ → ℤ → Bool) → Order below → Ordered 0 ps (length rs)
+      → extreme below (window rs q) ≡ frontOf (pos 0) (entriesFrom (windowStart (length rs) q) (standing below (entries (extreme below) rs ps)))
+  answer-extreme below order o =
+      stretch-extreme rs (windowStart (length rs) q) ps (length rs) (window-nonempty (length rs) q g h) (le-refl (length rs)) (window-tiled (length rs) ps a q g l t h)
+      below order o
+
+-- ---- W6: the live partials
+
+-- partials of at least one reading each, that start at h or later
+from-few : (h a : ℕ) (ps : List Partial) (c : ℕ) → Ordered a ps c → length (partialsFrom h ps) ≤ c - max a h
+from-few h a [] c o = zero-le
+from-few h a (p ∷ ps) c o = go (leb h (p .start)) refl (from-few h (p .stop) ps c (o .2))
+  where
+    end : p .stop ≤ c
+    end = ordered-le (p .stop) ps c (o .2)
+
+    go : (b : Bool) → leb h (p .start) ≡ b → length (partialsFrom h ps) ≤ c - max (p .stop) h → length (cond b (p ∷ partialsFrom h ps) (partialsFrom h ps)) ≤ c - max a h
+    go true e ih = omega (arith, ih, end, o .0, o .1, leb-true h (p .start) e)
+    go false e ih = omega (arith, ih, end, o .0, o .1)
+
+-- at most 4,096 are live
+pub live-few : (s : State) → Invariant s → length (partialsFrom (horizon (count s) (s .queries)) (s .closed)) ≤ lengthLimit
+live-few s i =
+    omega (
+      arith,
+      from-few (horizon (count s) (s .queries)) 0 (s .closed) (count s) (shape-ordered (s .openStart) (count s) (s .queries) (s .closed) (i .shape)),
+      horizon-far (count s) (s .queries) (i .steady .limits),
+    )

@@ -1,0 +1,20 @@
+-- `Query::due` meets its contract: each answer is the definition under the test that led there. Assumes nothing.
+use borrow.Author.Needs.{needs}
+use borrow.Author.Tests.{le-ltb, lt-ltb}
+use Rattle.window.proofs.query.Query.due.Statement.{statement}
+use Rattle.window.proofs.query.Query.due.Tie as tie
+
+returns : tie.Need-returns
+returns c = simp (le-ltb _ _ (c .if1 .taken))
+
+phase-requires : tie.Need-phase-requires
+phase-requires c κs = search needs
+
+rem-result : tie.Need-rem-result
+rem-result c = search needs
+
+returns-2 : tie.Need-returns-2
+returns-2 c = simp (lt-ltb _ _ (c .before .before .if1 .left), c .before .phase .ensures)
+
+pub due-spec : {M : Type 1} → statement M
+due-spec = tie.close (tie.spec returns phase-requires rem-result returns-2)

@@ -1,0 +1,108 @@
+-- What holds of the reference model after every list of calls from a start. `proofs/Preserved.antt` proves the invariant,
+-- `proofs/Bounds.antt` the bounds.
+-- Assumes nothing.
+use Prim.Native.Nat.{ℕ, _+_, _*_, _-_, _≤_, _<_, min}
+use mathlib.Core.Path.{_≡_}
+use mathlib.Core.Bool.{Bool, true, false, _||_}
+use mathlib.Core.Option.{Option, none, some}
+use mathlib.Core.List.{List, [], _∷_}
+use lib.Dec.{eqb}
+use lib.IntN.{ℤ}
+use lib.Signed.{leZ}
+use lib.ListN.{length}
+use Rattle.window.specs.declared.query.Query.{Query}
+use Rattle.window.specs.Lists.{Each}
+use Rattle.window.specs.Orders.{geZ, extreme}
+use Rattle.window.specs.Queries.{Limits, lengthLimit, queryLimit, countLimit, edge, horizon}
+use Rattle.window.specs.Partials.{Partial, Entry, entries, partialsFrom}
+use Rattle.window.specs.Standing.{standing}
+use Rattle.window.specs.Refusals.{isRegistered, damaged}
+use Rattle.window.specs.Model.{State, count}
+
+-- ---- how partials lie
+
+-- partials that hold a reading each, from a on, none starting before the end of the one before it, all over by c
+abbrev pub Ordered : ℕ → List Partial → ℕ → Type 0
+Ordered a [] c = a ≤ c
+Ordered a (p ∷ ps) c = (a ≤ p .start) × (p .start < p .stop) × Ordered (p .stop) ps c
+
+-- partials that hold a reading each, and together readings a + 1 to c without a gap
+abbrev pub Tiles : ℕ → List Partial → ℕ → Type 0
+Tiles a [] c = a ≡ c
+Tiles a (p ∷ ps) c = (p .start ≡ a) × (p .start < p .stop) × Tiles (p .stop) ps c
+
+-- entries whose starts never fall: what the laws of standing entries ask of a list
+abbrev pub Sorted : {A : Type 0} → List (Entry A) → Type 0
+Sorted [] = Unit {0}
+Sorted {A} (x ∷ xs) = Each (λ (y : Entry A). x .start ≤ y .start) xs × Sorted xs
+
+-- a partial holds at most 4,096 readings
+abbrev pub Short : Partial → Type 0
+Short p = p .stop ≤ p .start + lengthLimit
+
+-- ---- what the partials are to a query
+
+-- a window of q can begin or end at m: its registration point, or an edge
+abbrev pub marks : ℕ → Query → Bool
+marks m q = eqb m (q .origin) || edge m q
+
+-- where n readings were taken, ps are closed and the open partial starts at a
+pub record Tracked (n : ℕ) (ps : List Partial) (a : ℕ) (q : Query) : Type 0 where
+  -- the open partial began at the registration or later
+  pub early : q .origin ≤ a
+  -- from each place where a window of q can begin or end, the closed partials tile the readings up to the open one
+  pub tiled : (m : ℕ) → m ≤ n → marks m q ≡ true → Tiles m (partialsFrom m ps) a
+
+-- no two queries share a number
+abbrev pub Distinct : List Query → Type 0
+Distinct [] = Unit {0}
+Distinct (q ∷ qs) = (isRegistered (q .number) qs ≡ false) × Distinct qs
+
+-- with no open partial: no query is registered. With one that starts at a: some query is, and every registered query is tracked
+abbrev pub Shape : Option ℕ → ℕ → List Query → List Partial → Type 0
+Shape none n qs ps = (qs ≡ []) × Ordered 0 ps n
+Shape (some a) n qs ps = (a ≤ n) × Ordered 0 ps a × (1 ≤ length qs) × Each (Tracked n ps a) qs
+
+-- ---- the comparisons made
+
+-- with P partials closed, m comparisons made and S partials standing of them all: m + S is at most 2 P - 1, and 0 where P is 0; S is at least 1
+-- where P is
+pub record Paid (below : ℤ → ℤ → Bool) (m : ℕ) (readings : List ℤ) (ps : List Partial) : Type 0 where
+  pub bound : m + length (standing below (entries (extreme below) readings ps)) + min (length ps) 1 ≤ 2 * length ps
+  pub someStand : min (length ps) 1 ≤ length (standing below (entries (extreme below) readings ps))
+
+-- ---- the whole
+
+-- what does not depend on the open partial
+pub record Steady (s : State) : Type 0 where
+  pub few : length (s .queries) ≤ queryLimit
+  pub distinct : Distinct (s .queries)
+  pub limits : Each Limits (s .queries)
+  pub counted : count s ≤ countLimit
+  pub short : Each Short (s .closed)
+  pub maxPaid : Paid leZ (s .maxComparisons) (s .readings) (s .closed)
+  pub minPaid : Paid geZ (s .minComparisons) (s .readings) (s .closed)
+
+pub record Invariant (s : State) : Type 0 where
+  pub shape : Shape (s .openStart) (count s) (s .queries) (s .closed)
+  pub steady : Steady s
+
+-- ---- the bounds that follow from it
+
+pub record Bounded (s : State) : Type 0 where
+  -- M and N are at most 2 P - 2, which is 0 where P is 0
+  pub maxima : s .maxComparisons ≤ 2 * length (s .closed) - 2
+  pub minima : s .minComparisons ≤ 2 * length (s .closed) - 2
+  -- P is at most n
+  pub closedCount : length (s .closed) ≤ count s
+  -- at most 4,096 closed partials are live
+  pub live : length (partialsFrom (horizon (count s) (s .queries)) (s .closed)) ≤ lengthLimit
+  -- an open partial is shorter than every slide, and holds fewer than 4,096 readings; a closed one holds at most 4,096
+  pub openWithinSlides : (a : ℕ) → s .openStart ≡ some a → Each (λ (q : Query). count s < a + q .slide) (s .queries)
+  pub openShort : (a : ℕ) → s .openStart ≡ some a → count s < a + lengthLimit
+  pub closedShort : Each Short (s .closed)
+  -- every closed partial starts before n, which is the registration point of whatever is registered next
+  pub closedBefore : Each (λ (p : Partial). p .start < count s) (s .closed)
+  -- no registration point is above n, and the queries are not taken for damaged
+  pub originsEarly : Each (λ (q : Query). q .origin ≤ count s) (s .queries)
+  pub intact : damaged (count s) (s .queries) ≡ false

@@ -1,0 +1,10 @@
+pub mod Lists
+pub mod Orders
+pub mod Queries
+pub mod Partials
+pub mod Standing
+pub mod Refusals
+pub mod Calls
+pub mod Model
+pub mod Cases
+pub mod Invariant

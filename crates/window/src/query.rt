@@ -1,0 +1,87 @@
+// A query, and what it means at a count of readings (document 01, "What a query means" and "Where partials are cut").
+ghost use mathlib.Core.Path.{_≡_};
+ghost use Prim.Native.Nat.{_≤_};
+ghost use Rattle.window.specs.Queries.{Limits, phase, due, edge, windowStart, windowCount};
+
+// The greatest query number, the number of kinds, and the greatest range and slide.
+pub const NUMBER_LIMIT: u32 = 65_535;
+
+pub const KIND_LIMIT: u32 = 4;
+
+pub const LENGTH_LIMIT: u32 = 4_096;
+
+// A count of readings since the start: document 01's n, and every place that is measured by it.
+pub type Count = u32;
+
+pub struct Query {
+    // Chosen by the caller, 1 to 65,535.
+    pub number: u32,
+    // 1 sum, 2 count, 3 maximum, 4 minimum.
+    pub kind: u32,
+    // The range r, 1 to 4,096 readings: how many readings a full window holds.
+    pub range: u32,
+    // The slide s, 1 to 4,096 readings: how many readings lie between two answers.
+    pub slide: u32,
+    // Document 01's registration point g: the count of readings at which the query was accepted.
+    pub origin: Count,
+}
+
+impl Query {
+    // How far m is from where the slides are counted. Due and edge are counted by it alone.
+    fn phase(self, m: Count) -> Count
+        requires { ⌜ self .origin ≤ m ⌝ }
+        ensures { λ r. ⌜ r ≡ phase m self ⌝ }
+    {
+        m - self.origin
+    }
+
+    // Whether the query is answered at n.
+    pub fn due(self, n: Count) -> bool
+        requires { ⌜ Limits self ⌝ }
+        ensures { λ r. ⌜ r ≡ due n self ⌝ }
+    {
+        if n <= self.origin {
+            return false;
+        }
+        self.phase(n) % self.slide == 0
+    }
+
+    // Whether a window of the query can end or begin at m (document 01: the query cuts at m). The phase is reduced before the range is
+    // added to it: m - g + r itself can pass the width of a count.
+    pub fn edge(self, m: Count) -> bool
+        requires { ⌜ Limits self ⌝ }
+        ensures { λ r. ⌜ r ≡ edge m self ⌝ }
+    {
+        if m <= self.origin {
+            return false;
+        }
+        let rest = self.phase(m) % self.slide;
+        if rest == 0 {
+            return true;
+        }
+        (rest + self.range) % self.slide == 0
+    }
+
+    // The window at n holds the readings after this place.
+    pub fn window_start(self, n: Count) -> Count
+        ensures { λ r. ⌜ r ≡ windowStart n self ⌝ }
+    {
+        if n <= self.range {
+            return self.origin;
+        }
+        let back = n - self.range;
+        if back <= self.origin {
+            self.origin
+        } else {
+            back
+        }
+    }
+
+    // How many readings the window at n holds.
+    pub fn window_count(self, n: Count) -> Count
+        requires { ⌜ self .origin ≤ n ⌝ }
+        ensures { λ r. ⌜ r ≡ windowCount n self ⌝ }
+    {
+        n - self.window_start(n)
+    }
+}
