@@ -187,12 +187,12 @@ pub record Ran : Type 0 where
   pub outcomes : List Outcome
   pub state : State
 
-abbrev pub then : Outcome → Ran → Ran
-then o r = record { outcomes = o ∷ r .outcomes; state = r .state }
+abbrev pub followedBy : Outcome → Ran → Ran
+followedBy o r = record { outcomes = o ∷ r .outcomes; state = r .state }
 
 abbrev pub run : State → List Call → Ran
 run s [] = record { outcomes = []; state = s }
-run s (c ∷ cs) = then ((step s c) .outcome) (run ((step s c) .state) cs)
+run s (c ∷ cs) = followedBy ((step s c) .outcome) (run ((step s c) .state) cs)
 
 -- the state after a list of calls on a fresh model
 abbrev pub reached : List Call → State
