@@ -20,9 +20,9 @@ use Rattle.window.specs.Partials.{Partial}
 use Rattle.window.specs.Refusals.{applying, fieldChecks, isRegistered, brokenRecord, sharedNumber, damaged}
 use Rattle.window.specs.Calls.{Call, IsReading}
 use Rattle.window.specs.Model.{State, count, reached}
-use Rattle.window.specs.Invariant.{Ordered, Tracked, Distinct, Shape, Paid, Invariant, Bounded}
+use Rattle.window.specs.Invariant.{Ordered, Tracked, Distinct, Shape, Amortized, Invariant, Bounded}
 use Rattle.window.proofs.Lists.{or-neither, each-map}
-use Rattle.window.proofs.Refusals.{limits-idle}
+use Rattle.window.proofs.Refusals.{limits-none}
 use Rattle.window.proofs.Tiling.{ordered-before, ordered-count}
 use Rattle.window.proofs.Tracking.{shape-ordered, open-within-slide}
 use Rattle.window.proofs.Preserved.{reached-invariant}
@@ -31,8 +31,8 @@ use Rattle.window.proofs.Windows.{live-few}
 -- ---- the comparisons
 
 -- m is at most 2 P - 2, and 0 where P is 0
-paid-bound : (below : ℤ → ℤ → Bool) (m : ℕ) (rs : List ℤ) (ps : List Partial) → Paid below m rs ps → m ≤ 2 * length ps - 2
-paid-bound below m rs ps h = omega arith
+amortized-bound : (below : ℤ → ℤ → Bool) (m : ℕ) (rs : List ℤ) (ps : List Partial) → Amortized below m rs ps → m ≤ 2 * length ps - 2
+amortized-bound below m rs ps h = omega arith
 
 -- ---- partials
 
@@ -49,14 +49,14 @@ module _ (s : State) (i : Invariant s) where
       (ordered-before 0 (s .closed) (count s) ordered)
 
   open-within-slides : (a : ℕ) → s .openStart ≡ some a → Each (λ (q : Query). count s < a + q .slide) (s .queries)
-  open-within-slides a e = go (s .queries) (i .steady .limits) ((open-shape a e) .3)
+  open-within-slides a e = go (s .queries) (i .withinLimits .limits) ((open-shape a e) .3)
     where
       go : (qs : List Query) → Each Limits qs → Each (Tracked (count s) (s .closed) a) qs → Each (λ (q : Query). count s < a + q .slide) qs
       go [] g t = tt
       go (q ∷ qs) g t = (open-within-slide (count s) (s .closed) a q (g .0) ((open-shape a e) .0) (t .0), go qs (g .1) (t .1))
 
   open-short : (a : ℕ) → s .openStart ≡ some a → count s < a + lengthLimit
-  open-short a e = go (s .queries) ((open-shape a e) .2) (i .steady .limits) (open-within-slides a e)
+  open-short a e = go (s .queries) ((open-shape a e) .2) (i .withinLimits .limits) (open-within-slides a e)
     where
       go : (qs : List Query) → 1 ≤ length qs → Each Limits qs → Each (λ (q : Query). count s < a + q .slide) qs → count s < a + lengthLimit
       go [] l g h = absurd (not-suc-le-zero l)
@@ -76,7 +76,7 @@ not-broken n [] g h = refl
 not-broken n (q ∷ qs) g h =
     or-neither (brokenRecord n q) (any (brokenRecord n) qs)
     (or-neither (any applying (fieldChecks (q .number) (q .kind) (q .range) (q .slide))) (ltb n (q .origin))
-    (limits-idle q (g .0))
+    (limits-none q (g .0))
     (le-ltb n (q .origin) (h .0)))
     (not-broken n qs (g .1) (h .1))
 
@@ -84,31 +84,31 @@ not-shared : (qs : List Query) → Distinct qs → sharedNumber qs ≡ false
 not-shared [] d = refl
 not-shared (q ∷ qs) d = or-neither (isRegistered (q .number) qs) (sharedNumber qs) (d .0) (not-shared qs (d .1))
 
-undamaged : (s : State) → Invariant s → damaged (count s) (s .queries) ≡ false
+undamaged : (s : State) → Invariant s → damaged (count s) (length (s .queries)) (s .queries) ≡ false
 unfolding damaged
 undamaged s i =
     let qs : List Query = s .queries in
     or-neither (ltb queryLimit (length qs)) (any (brokenRecord (count s)) qs || sharedNumber qs)
-    (le-ltb queryLimit (length qs) (i .steady .few))
+    (le-ltb queryLimit (length qs) (i .withinLimits .few))
     (or-neither (any (brokenRecord (count s)) qs) (sharedNumber qs)
-    (not-broken (count s) qs (i .steady .limits) (origins-early s i))
-    (not-shared qs (i .steady .distinct)))
+    (not-broken (count s) qs (i .withinLimits .limits) (origins-early s i))
+    (not-shared qs (i .withinLimits .distinct)))
 
 -- ---- all of them, of a state that has the invariant; and so after every list of calls on a fresh model
 
 pub bounded : (s : State) → Invariant s → Bounded s
 bounded s i =
     record {
-      maxima = paid-bound leZ (s .maxComparisons) (s .readings) (s .closed) (i .steady .maxPaid);
-      minima = paid-bound geZ (s .minComparisons) (s .readings) (s .closed) (i .steady .minPaid);
+      maxima = amortized-bound leZ (s .maxComparisons) (s .readings) (s .closed) (i .withinLimits .maxAmortized);
+      minima = amortized-bound geZ (s .minComparisons) (s .readings) (s .closed) (i .withinLimits .minAmortized);
       closedCount = omega (arith, ordered-count 0 (s .closed) (count s) (ordered s i));
-      live = live-few s i;
+      liveFew = live-few s i;
       openWithinSlides = open-within-slides s i;
       openShort = open-short s i;
-      closedShort = i .steady .short;
+      closedShort = i .withinLimits .short;
       closedBefore = closed-before s i;
       originsEarly = origins-early s i;
-      intact = undamaged s i;
+      notDamaged = undamaged s i;
     }
 
 pub reached-bounded : (cs : List Call) → Bounded (reached cs)

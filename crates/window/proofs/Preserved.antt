@@ -21,32 +21,32 @@ use Rattle.window.specs.Queries.{Limits, lengthLimit, countLimit, edge, 
 use Rattle.window.specs.Partials.{Partial, spanning}
 use Rattle.window.specs.Refusals.{firstRefusal, registerChecks, withdrawChecks, readingChecks, hasNumber, isRegistered}
 use Rattle.window.specs.Calls.{Call, start, register, withdraw, reading, totals}
-use Rattle.window.specs.Model.{State, count, initial, standingAt, closingComparisons, closeAt, closeWhere, holdsReading, enrolled, afterRegister, openIfAny, afterWithdraw, appended, closeAtEdge, afterReading, Stepped, answered, counted, judged, newQuery, step, run, reached}
-use Rattle.window.specs.Invariant.{Ordered, Short, Tracked, Distinct, Shape, Steady, Invariant}
+use Rattle.window.specs.Model.{State, count, initial, standingAt, closingComparisons, closeAt, closeWhere, holdsReading, withQuery, afterRegister, openIfAny, afterWithdraw, appended, closeAtEdge, afterReading, Stepped, answered, totalsOf, judged, newQuery, step, run, reached}
+use Rattle.window.specs.Invariant.{Ordered, Short, Tracked, Distinct, Shape, WithinLimits, Invariant}
 use Rattle.window.proofs.Lists.{or-neither, not-left, not-right, each-map, each-append, each-filter, length-filter, any-append, any-filter}
 use Rattle.window.proofs.Refusals.{Joins, register-passed, reading-passed}
 use Rattle.window.proofs.Tiling.{ordered-weaken, ordered-snoc}
 use Rattle.window.proofs.Tracking.{shape-ordered, track-all, track-close, track-new, closes-short}
-use Rattle.window.proofs.Comparisons.{closed-paid, grown-paid}
+use Rattle.window.proofs.Comparisons.{closed-amortized, grown-amortized}
 
 -- ---- each step keeps what does not depend on the open partial
 
-appended-steady : (s : State) (v : ℤ) → count s < countLimit → Ordered 0 (s .closed) (count s) → Steady s → Steady (appended s v)
+appended-within-limits : (s : State) (v : ℤ) → count s < countLimit → Ordered 0 (s .closed) (count s) → WithinLimits s → WithinLimits (appended s v)
 unfolding appended
-appended-steady s v room o k =
+appended-within-limits s v room o k =
     record {
       few = k .few;
       distinct = k .distinct;
       limits = k .limits;
       counted = omega (arith, length-append (s .readings) (v ∷ []), room);
       short = k .short;
-      maxPaid = grown-paid leZ (s .maxComparisons) (s .readings) (v ∷ []) (s .closed) o (k .maxPaid);
-      minPaid = grown-paid geZ (s .minComparisons) (s .readings) (v ∷ []) (s .closed) o (k .minPaid);
+      maxAmortized = grown-amortized leZ (s .maxComparisons) (s .readings) (v ∷ []) (s .closed) o (k .maxAmortized);
+      minAmortized = grown-amortized geZ (s .minComparisons) (s .readings) (v ∷ []) (s .closed) o (k .minAmortized);
     }
 
-closed-steady : (s : State) (a : ℕ) → Ordered 0 (s .closed) a → count s ≤ a + lengthLimit → Steady s → Steady (closeAt s a)
+closed-within-limits : (s : State) (a : ℕ) → Ordered 0 (s .closed) a → count s ≤ a + lengthLimit → WithinLimits s → WithinLimits (closeAt s a)
 unfolding closeAt closingComparisons standingAt
-closed-steady s a o l k =
+closed-within-limits s a o l k =
     let p : Partial = spanning a (count s) in
     let h : ℕ = horizon (count s) (s .queries) in
     record {
@@ -55,8 +55,8 @@ closed-steady s a o l k =
       limits = k .limits;
       counted = k .counted;
       short = each-append Short (s .closed) (p ∷ []) (k .short) (l, tt);
-      maxPaid = closed-paid leZ (s .maxComparisons) (s .readings) (s .closed) a h p o (k .maxPaid);
-      minPaid = closed-paid geZ (s .minComparisons) (s .readings) (s .closed) a h p o (k .minPaid);
+      maxAmortized = closed-amortized leZ (s .maxComparisons) (s .readings) (s .closed) a h p o (k .maxAmortized);
+      minAmortized = closed-amortized geZ (s .minComparisons) (s .readings) (s .closed) a h p o (k .minAmortized);
     }
 
 eqb-swap : (a b : ℕ) → eqb a b ≡ false → eqb b a ≡ false
@@ -72,17 +72,17 @@ distinct-snoc (p ∷ qs) q d e =
       distinct-snoc qs q (d .1) later,
     )
 
-enrolled-steady : (s : State) (q : Query) → Joins (s .queries) q → Steady s → Steady (enrolled s q)
-unfolding enrolled
-enrolled-steady s q j k =
+withQuery-within-limits : (s : State) (q : Query) → Joins (s .queries) q → WithinLimits s → WithinLimits (withQuery s q)
+unfolding withQuery
+withQuery-within-limits s q j k =
     record {
       few = omega (arith, length-append (s .queries) (q ∷ []), j .room);
       distinct = distinct-snoc (s .queries) q (k .distinct) (j .new);
       limits = each-append Limits (s .queries) (q ∷ []) (k .limits) (j .limits, tt);
       counted = k .counted;
       short = k .short;
-      maxPaid = k .maxPaid;
-      minPaid = k .minPaid;
+      maxAmortized = k .maxAmortized;
+      minAmortized = k .minAmortized;
     }
 
 distinct-filter : (keep : Query → Bool) (qs : List Query) → Distinct qs → Distinct (filter keep qs)
@@ -93,9 +93,9 @@ distinct-filter keep (q ∷ qs) d = go (keep q) (distinct-filter keep qs (d .1))
     go true ih = (any-filter (hasNumber (q .number)) keep qs (d .0), ih)
     go false ih = ih
 
-withdrawn-steady : (s : State) (k : ℕ) → Steady s → Steady (afterWithdraw s k)
+withdrawn-within-limits : (s : State) (k : ℕ) → WithinLimits s → WithinLimits (afterWithdraw s k)
 unfolding afterWithdraw
-withdrawn-steady s k i =
+withdrawn-within-limits s k i =
     let keep : Query → Bool = λ (q : Query). not (hasNumber k q) in
     record {
       few = omega (arith, length-filter keep (s .queries), i .few);
@@ -103,8 +103,8 @@ withdrawn-steady s k i =
       limits = each-filter Limits keep (s .queries) (i .limits);
       counted = i .counted;
       short = i .short;
-      maxPaid = i .maxPaid;
-      minPaid = i .minPaid;
+      maxAmortized = i .maxAmortized;
+      minAmortized = i .minAmortized;
     }
 
 -- ---- each call keeps the invariant
@@ -113,20 +113,20 @@ pub initial-invariant : Invariant initial
 initial-invariant =
     record {
       shape = (refl, zero-le);
-      steady =
+      withinLimits =
           record {
             few = zero-le;
             distinct = tt;
             limits = tt;
             counted = zero-le;
             short = tt;
-            maxPaid = record { bound = zero-le; someStand = zero-le };
-            minPaid = record { bound = zero-le; someStand = zero-le };
+            maxAmortized = record { bound = zero-le; someStand = zero-le };
+            minAmortized = record { bound = zero-le; someStand = zero-le };
           };
     }
 
 -- the open partial closes at the count b of s, where its queries were tracked up to n, which is b or the count before it
-close-invariant : (s : State) (n a : ℕ) → n ≤ count s → count s ≤ n + 1 → a < count s → Shape (some a) n (s .queries) (s .closed) → Steady s → Invariant (closeAt s a)
+close-invariant : (s : State) (n a : ℕ) → n ≤ count s → count s ≤ n + 1 → a < count s → Shape (some a) n (s .queries) (s .closed) → WithinLimits s → Invariant (closeAt s a)
 unfolding closeAt
 close-invariant s n a lo hi l h k =
     let b : ℕ = count s in
@@ -138,7 +138,7 @@ close-invariant s n a lo hi l h k =
         h .2,
         each-map (Tracked n (s .closed) a) (Tracked b (s .closed ++ (p ∷ [])) b) (track-close n (s .closed) a b l lo hi (h .1)) (s .queries) (h .3),
       );
-      steady = closed-steady s a (h .1) (closes-short n (s .closed) a b (s .queries) hi (h .0) (h .2) (k .limits) (h .3)) k;
+      withinLimits = closed-within-limits s a (h .1) (closes-short n (s .closed) a b (s .queries) hi (h .0) (h .2) (k .limits) (h .3)) k;
     }
 
 reading-invariant : (s : State) (v : ℤ) → count s < countLimit → Invariant s → Invariant (afterReading s v)
@@ -151,26 +151,26 @@ reading-invariant s v room i = go (s .openStart) refl (i .shape)
     longer : length (s .readings ++ (v ∷ [])) ≡ n + 1
     longer = length-append (s .readings) (v ∷ [])
 
-    k : Steady (appended s v)
-    k = appended-steady s v room (shape-ordered (s .openStart) n (s .queries) (s .closed) (i .shape)) (i .steady)
+    k : WithinLimits (appended s v)
+    k = appended-within-limits s v room (shape-ordered (s .openStart) n (s .queries) (s .closed) (i .shape)) (i .withinLimits)
 
     closing : (a : ℕ) (b : Bool) → s .openStart ≡ some a → any (edge (count (appended s v))) (s .queries) ≡ b → Shape (some a) n (s .queries) (s .closed)
         → Invariant (cond b (closeAt (appended s v) a) (appended s v))
     closing a true e f h = close-invariant (appended s v) n a (omega (arith, longer)) (omega (arith, longer)) (omega (arith, h .0, longer)) h k
     closing a false e f h =
-        record { shape = rw (e, longer) (omega (arith, h .0), h .1, h .2, track-all n (s .closed) a (s .queries) (h .0) (rw longer at f) (h .3)); steady = k }
+        record { shape = rw (e, longer) (omega (arith, h .0), h .1, h .2, track-all n (s .closed) a (s .queries) (h .0) (rw longer at f) (h .3)); withinLimits = k }
 
     go : (o : Option ℕ) → s .openStart ≡ o → Shape o n (s .queries) (s .closed)
         → Invariant (closeWhere (any (edge (count (appended s v))) (s .queries)) o (appended s v))
-    go none e h = record { shape = rw (e, longer) (h .0, ordered-weaken 0 (s .closed) n (n + 1) (omega arith) (h .1)); steady = k }
+    go none e h = record { shape = rw (e, longer) (h .0, ordered-weaken 0 (s .closed) n (n + 1) (omega arith) (h .1)); withinLimits = k }
     go (some a) e h = closing a (any (edge (count (appended s v))) (s .queries)) e refl h
 
 -- where the open partial, if there is one, has just begun, a query can join
-enroll-invariant : (s : State) (q : Query) → q .origin ≡ count s → Joins (s .queries) q
-    → Ordered 0 (s .closed) (count s) → Each (Tracked (count s) (s .closed) (count s)) (s .queries) → Steady s
-    → Invariant (enrolled s q)
-unfolding enrolled
-enroll-invariant s q e j o t k =
+join-invariant : (s : State) (q : Query) → q .origin ≡ count s → Joins (s .queries) q
+    → Ordered 0 (s .closed) (count s) → Each (Tracked (count s) (s .closed) (count s)) (s .queries) → WithinLimits s
+    → Invariant (withQuery s q)
+unfolding withQuery
+join-invariant s q e j o t k =
     record {
       shape = (
         le-refl (count s),
@@ -178,7 +178,7 @@ enroll-invariant s q e j o t k =
         omega (arith, length-append (s .queries) (q ∷ [])),
         each-append (Tracked (count s) (s .closed) (count s)) (s .queries) (q ∷ []) t (track-new (s .closed) (count s) q e o, tt),
       );
-      steady = enrolled-steady s q j k;
+      withinLimits = withQuery-within-limits s q j k;
     }
 
 register-invariant : (s : State) (q : Query) → q .origin ≡ count s → Joins (s .queries) q → Invariant s → Invariant (afterRegister s q)
@@ -188,21 +188,21 @@ register-invariant s q e j i = go (s .openStart) (i .shape)
     n : ℕ
     n = count s
 
-    closing : (a : ℕ) (b : Bool) → ltb a n ≡ b → Shape (some a) n (s .queries) (s .closed) → Invariant (enrolled (cond b (closeAt s a) s) q)
+    closing : (a : ℕ) (b : Bool) → ltb a n ≡ b → Shape (some a) n (s .queries) (s .closed) → Invariant (withQuery (cond b (closeAt s a) s) q)
     closing a true f h =
-        let c : Invariant (closeAt s a) = close-invariant s n a (le-refl n) (omega arith) (ltb-true a n f) h (i .steady) in
-        enroll-invariant (closeAt s a) q e j (c .shape .1) (c .shape .3) (c .steady)
+        let c : Invariant (closeAt s a) = close-invariant s n a (le-refl n) (omega arith) (ltb-true a n f) h (i .withinLimits) in
+        join-invariant (closeAt s a) q e j (c .shape .1) (c .shape .3) (c .withinLimits)
     closing a false f h =
         let same : a ≡ n = omega (arith, h .0, ltb-false a n f) in
-        enroll-invariant s q e j (subst (λ (x : ℕ). Ordered 0 (s .closed) x) same (h .1)) (subst (λ (x : ℕ). Each (Tracked n (s .closed) x) (s .queries)) same (h .3)) (i .steady)
+        join-invariant s q e j (subst (λ (x : ℕ). Ordered 0 (s .closed) x) same (h .1)) (subst (λ (x : ℕ). Each (Tracked n (s .closed) x) (s .queries)) same (h .3)) (i .withinLimits)
 
-    go : (o : Option ℕ) → Shape o n (s .queries) (s .closed) → Invariant (enrolled (closeWhere (holdsReading n o) o s) q)
-    go none h = enroll-invariant s q e j (h .1) (rw (h .0) tt) (i .steady)
+    go : (o : Option ℕ) → Shape o n (s .queries) (s .closed) → Invariant (withQuery (closeWhere (holdsReading n o) o s) q)
+    go none h = join-invariant s q e j (h .1) (rw (h .0) tt) (i .withinLimits)
     go (some a) h = closing a (ltb a n) refl h
 
 withdraw-invariant : (s : State) (k : ℕ) → Invariant s → Invariant (afterWithdraw s k)
 unfolding afterWithdraw
-withdraw-invariant s k i = record { shape = go (s .openStart) (i .shape); steady = withdrawn-steady s k (i .steady) }
+withdraw-invariant s k i = record { shape = go (s .openStart) (i .shape); withinLimits = withdrawn-within-limits s k (i .withinLimits) }
   where
     keep : Query → Bool
     keep = λ (q : Query). not (hasNumber k q)
@@ -221,7 +221,7 @@ judged-keeps P Passed s t h f = f refl
 judged-keeps P (Refused r) s t h f = h
 
 pub step-invariant : (s : State) (c : Call) → Invariant s → Invariant ((step s c) .state)
-unfolding step answered counted
+unfolding step answered totalsOf
 step-invariant s start i = initial-invariant
 step-invariant s (register number kind range slide) i =
     judged-keeps Invariant (firstRefusal (registerChecks (s .queries) number kind range slide)) s _ i

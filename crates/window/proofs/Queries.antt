@@ -12,7 +12,7 @@ use Rattle.window.specs.declared.query.Query.{Query}
 use Rattle.window.specs.Lists.{filter, Each}
 use Rattle.window.specs.Queries.{Limits, lengthLimit, phase, due, edge, windowStart, horizon}
 use Rattle.window.specs.Invariant.{marks}
-use Rattle.window.proofs.Lists.{and-left, and-right, or-left, or-right, each-map}
+use Rattle.window.proofs.Lists.{and-left, and-right, or-left, or-right, each-map, each-filter}
 
 -- ---- an edge by the remainder of the phase x
 
@@ -105,27 +105,47 @@ last-le n q l = omega arith
 -- it is at most every window start
 pub horizon-le : (n : ℕ) (qs : List Query) → Each (λ (q : Query). horizon n qs ≤ windowStart n q) qs
 horizon-le n [] = tt
-horizon-le n (q ∷ qs) =
-    (omega arith, each-map (λ (p : Query). horizon n qs ≤ windowStart n p) (λ (p : Query). horizon n (q ∷ qs) ≤ windowStart n p) (λ p k. omega arith) qs (horizon-le n qs))
+horizon-le n (q ∷ []) = (le-refl (windowStart n q), tt)
+horizon-le n (q ∷ p ∷ qs) = (
+  omega arith,
+  each-map (λ (r : Query). horizon n (p ∷ qs) ≤ windowStart n r) (λ (r : Query). horizon n (q ∷ p ∷ qs) ≤ windowStart n r) (λ r k. omega arith) (p ∷ qs) (horizon-le n (p ∷ qs)),
+)
 
--- and at most 4,096 readings back
+-- at most 4,096 readings back
 pub horizon-far : (n : ℕ) (qs : List Query) → Each Limits qs → n ≤ horizon n qs + lengthLimit
 horizon-far n [] g = omega arith
-horizon-far n (q ∷ qs) g = omega (arith, horizon-far n qs (g .1), g .0 .rangeHigh)
+horizon-far n (q ∷ []) g = omega (arith, g .0 .rangeHigh)
+horizon-far n (q ∷ p ∷ qs) g = omega (arith, horizon-far n (p ∷ qs) (g .1), g .0 .rangeHigh)
+
+-- and at most n
+horizon-le-count : (n : ℕ) (qs : List Query) → Each (λ (q : Query). q .origin ≤ n) qs → horizon n qs ≤ n
+horizon-le-count n [] h = le-refl n
+horizon-le-count n (q ∷ []) h = omega (arith, h .0)
+horizon-le-count n (q ∷ p ∷ qs) h = omega (arith, horizon-le-count n (p ∷ qs) (h .1))
 
 -- a later count, a new query and a withdrawal never move it back
 pub horizon-later : (n : ℕ) (qs : List Query) → horizon n qs ≤ horizon (n + 1) qs
 horizon-later n [] = omega arith
-horizon-later n (q ∷ qs) = omega (arith, horizon-later n qs)
+horizon-later n (q ∷ []) = omega arith
+horizon-later n (q ∷ p ∷ qs) = omega (arith, horizon-later n (p ∷ qs))
 
-pub horizon-more : (n : ℕ) (qs : List Query) (q : Query) → q .origin ≡ n → horizon n (qs ++ (q ∷ [])) ≡ horizon n qs
-horizon-more n [] q e = omega arith
-horizon-more n (p ∷ qs) q e = ap (λ (h : ℕ). min (windowStart n p) h) (horizon-more n qs q e)
+pub horizon-more : (n : ℕ) (qs : List Query) (q : Query) → Each (λ (p : Query). p .origin ≤ n) qs → q .origin ≡ n → horizon n (qs ++ (q ∷ [])) ≡ horizon n qs
+horizon-more n [] q h e = omega arith
+horizon-more n (p ∷ []) q h e = omega (arith, h .0)
+horizon-more n (p ∷ r ∷ qs) q h e = ap (λ (x : ℕ). min (windowStart n p) x) (horizon-more n (r ∷ qs) q (h .1) e)
 
-pub horizon-fewer : (n : ℕ) (keep : Query → Bool) (qs : List Query) → horizon n qs ≤ horizon n (filter keep qs)
-horizon-fewer n keep [] = le-refl n
-horizon-fewer n keep (q ∷ qs) = go (keep q) (horizon-fewer n keep qs)
+-- one query more, in front
+horizon-cons : (n : ℕ) (q : Query) (qs : List Query) → Each (λ (p : Query). p .origin ≤ n) (q ∷ qs) → horizon n (q ∷ qs) ≡ min (windowStart n q) (horizon n qs)
+horizon-cons n q [] h = omega (arith, h .0)
+horizon-cons n q (p ∷ qs) h = refl
+
+pub horizon-fewer : (n : ℕ) (keep : Query → Bool) (qs : List Query) → Each (λ (q : Query). q .origin ≤ n) qs → horizon n qs ≤ horizon n (filter keep qs)
+horizon-fewer n keep [] h = le-refl n
+horizon-fewer n keep (q ∷ qs) h = go (keep q) (horizon-fewer n keep qs (h .1))
   where
+    kept : Each (λ (p : Query). p .origin ≤ n) (q ∷ filter keep qs)
+    kept = (h .0, each-filter (λ (p : Query). p .origin ≤ n) keep qs (h .1))
+
     go : (b : Bool) → horizon n qs ≤ horizon n (filter keep qs) → horizon n (q ∷ qs) ≤ horizon n (cond b (q ∷ filter keep qs) (filter keep qs))
-    go true ih = omega arith
-    go false ih = omega arith
+    go true ih = omega (arith, ih, horizon-cons n q qs h, horizon-cons n q (filter keep qs) kept)
+    go false ih = omega (arith, ih, horizon-cons n q qs h)

@@ -12,23 +12,23 @@ use Rattle.window.specs.declared.query.Query.{Query}
 use Rattle.window.specs.declared.refusal.Refusal.{Refusal}
 use Rattle.window.specs.declared.refusal.Verdict.the-variants.{Passed, Refused}
 use Rattle.window.specs.Lists.{any, Each}
-use Rattle.window.specs.Queries.{Limits, queryLimit, countLimit}
+use Rattle.window.specs.Queries.{Limits, numberLimit, kindLimit, lengthLimit, queryLimit, countLimit}
 use Rattle.window.specs.Refusals.{Check, firstRefusal, within, applying, isRegistered, dueAt, answerPlaces, fieldChecks, listChecks, registerChecks, readingChecks}
-use Rattle.window.proofs.Lists.{and-left, and-right, or-neither}
+use Rattle.window.proofs.Lists.{and-left, and-right, or-neither, not-left, not-right}
 
 -- a check of the list does not apply
-abbrev Idle : Check → Type 0
-Idle c = c .applies ≡ false
+abbrev NotApplying : Check → Type 0
+NotApplying c = c .applies ≡ false
 
 refused-passed : {X : Type 0} (r : Refusal) → Refused r ≡ Passed → X
 refused-passed r e = let z : _≡_ {A = ℕ} 0 1 = cc in absurd (omega arith)
 
 -- where the checks pass, none applies
-passed-idle : (cs : List Check) → firstRefusal cs ≡ Passed → Each Idle cs
-passed-idle [] e = tt
-passed-idle (c ∷ cs) e = go (c .applies) e (λ k. passed-idle cs k)
+passed-none : (cs : List Check) → firstRefusal cs ≡ Passed → Each NotApplying cs
+passed-none [] e = tt
+passed-none (c ∷ cs) e = go (c .applies) e (λ k. passed-none cs k)
   where
-    go : (b : Bool) → cond b (Refused (c .refusal)) (firstRefusal cs) ≡ Passed → (firstRefusal cs ≡ Passed → Each Idle cs) → (b ≡ false) × Each Idle cs
+    go : (b : Bool) → cond b (Refused (c .refusal)) (firstRefusal cs) ≡ Passed → (firstRefusal cs ≡ Passed → Each NotApplying cs) → (b ≡ false) × Each NotApplying cs
     go true k ih = refused-passed (c .refusal) k
     go false k ih = (refl, ih k)
 
@@ -36,8 +36,12 @@ passed-idle (c ∷ cs) e = go (c .applies) e (λ k. passed-idle cs k)
 pub applies-none : (cs : List Check) → firstRefusal cs ≡ Passed → any applying cs ≡ false
 applies-none [] e = refl
 applies-none (c ∷ cs) e =
-    let a = passed-idle (c ∷ cs) e in
+    let a = passed-none (c ∷ cs) e in
     or-neither (c .applies) (any applying cs) (a .0) (applies-none cs (rw (a .0) at e))
+
+none-passed : (cs : List Check) → any applying cs ≡ false → firstRefusal cs ≡ Passed
+none-passed [] e = refl
+none-passed (c ∷ cs) e = rw (not-left (c .applies) (any applying cs) e) (none-passed cs (not-right (c .applies) (any applying cs) e))
 
 pub applies-some : (cs : List Check) (r : Refusal) → firstRefusal cs ≡ Refused r → any applying cs ≡ true
 applies-some [] r e = refused-passed r (sym e)
@@ -60,7 +64,7 @@ within-both low high x l h = rw (le-leb low x l, le-leb x high h)
 -- ---- fields
 
 -- what the checks of the fields leave
-fields-within : (q : Query) → Each Idle (fieldChecks (q .number) (q .kind) (q .range) (q .slide)) → Limits q
+fields-within : (q : Query) → Each NotApplying (fieldChecks (q .number) (q .kind) (q .range) (q .slide)) → Limits q
 unfolding fieldChecks
 fields-within q a =
     let number = not-false _ (a .0) in
@@ -68,29 +72,32 @@ fields-within q a =
     let range = not-false _ (a .1 .1 .0) in
     let slide = not-false _ (a .1 .1 .1 .0) in
     record {
-      numberLow = within-low 1 65535 (q .number) number;
-      numberHigh = within-high 1 65535 (q .number) number;
-      kindLow = within-low 1 4 (q .kind) kind;
-      kindHigh = within-high 1 4 (q .kind) kind;
-      rangeLow = within-low 1 4096 (q .range) range;
-      rangeHigh = within-high 1 4096 (q .range) range;
-      slideLow = within-low 1 4096 (q .slide) slide;
-      slideHigh = within-high 1 4096 (q .slide) slide;
+      numberLow = within-low 1 numberLimit (q .number) number;
+      numberHigh = within-high 1 numberLimit (q .number) number;
+      kindLow = within-low 1 kindLimit (q .kind) kind;
+      kindHigh = within-high 1 kindLimit (q .kind) kind;
+      rangeLow = within-low 1 lengthLimit (q .range) range;
+      rangeHigh = within-high 1 lengthLimit (q .range) range;
+      slideLow = within-low 1 lengthLimit (q .slide) slide;
+      slideHigh = within-high 1 lengthLimit (q .slide) slide;
     }
 
--- `check_fields` passes just the fields within the limits
+-- the checks of the fields, and so `check_fields`, pass exactly the fields within the limits
 pub fields-passed : (q : Query) → firstRefusal (fieldChecks (q .number) (q .kind) (q .range) (q .slide)) ≡ Passed → Limits q
-fields-passed q e = fields-within q (passed-idle (fieldChecks (q .number) (q .kind) (q .range) (q .slide)) e)
+fields-passed q e = fields-within q (passed-none (fieldChecks (q .number) (q .kind) (q .range) (q .slide)) e)
 
-pub limits-idle : (q : Query) → Limits q → any applying (fieldChecks (q .number) (q .kind) (q .range) (q .slide)) ≡ false
+pub limits-none : (q : Query) → Limits q → any applying (fieldChecks (q .number) (q .kind) (q .range) (q .slide)) ≡ false
 unfolding fieldChecks
-limits-idle q g =
+limits-none q g =
     rw (
-      within-both 1 65535 (q .number) (g .numberLow) (g .numberHigh),
-      within-both 1 4 (q .kind) (g .kindLow) (g .kindHigh),
-      within-both 1 4096 (q .range) (g .rangeLow) (g .rangeHigh),
-      within-both 1 4096 (q .slide) (g .slideLow) (g .slideHigh),
+      within-both 1 numberLimit (q .number) (g .numberLow) (g .numberHigh),
+      within-both 1 kindLimit (q .kind) (g .kindLow) (g .kindHigh),
+      within-both 1 lengthLimit (q .range) (g .rangeLow) (g .rangeHigh),
+      within-both 1 lengthLimit (q .slide) (g .slideLow) (g .slideHigh),
     )
+
+pub limits-passed : (q : Query) → Limits q → firstRefusal (fieldChecks (q .number) (q .kind) (q .range) (q .slide)) ≡ Passed
+limits-passed q g = none-passed (fieldChecks (q .number) (q .kind) (q .range) (q .slide)) (limits-none q g)
 
 -- ---- a registration and a reading
 
@@ -103,11 +110,11 @@ pub record Joins (qs : List Query) (q : Query) : Type 0 where
 pub register-passed : (qs : List Query) (q : Query) → firstRefusal (registerChecks qs (q .number) (q .kind) (q .range) (q .slide)) ≡ Passed → Joins qs q
 unfolding registerChecks fieldChecks listChecks
 register-passed qs q e =
-    let a = passed-idle (registerChecks qs (q .number) (q .kind) (q .range) (q .slide)) e in
+    let a = passed-none (registerChecks qs (q .number) (q .kind) (q .range) (q .slide)) e in
     record {
       limits = fields-within q (a .0, (a .1 .0, (a .1 .1 .0, (a .1 .1 .1 .0, tt))));
       new = a .1 .1 .1 .1 .0;
-      room = leb-false 32 (length qs) (a .1 .1 .1 .1 .1 .0);
+      room = leb-false queryLimit (length qs) (a .1 .1 .1 .1 .1 .0);
     }
 
 -- a reading that passes can be counted, and its answers have room
@@ -118,5 +125,5 @@ pub record Counts (n : ℕ) (qs : List Query) (places : ℕ) : Type 0 where
 pub reading-passed : (n : ℕ) (qs : List Query) (places : ℕ) → firstRefusal (readingChecks n qs places) ≡ Passed → Counts n qs places
 unfolding readingChecks
 reading-passed n qs places e =
-    let a = passed-idle (readingChecks n qs places) e in
-    record { room = leb-false 4294967295 n (a .0); answersFit = ltb-false places _ (a .1 .0) }
+    let a = passed-none (readingChecks n qs places) e in
+    record { room = leb-false countLimit n (a .0); answersFit = ltb-false places _ (a .1 .0) }

@@ -1,28 +1,44 @@
 -- The laws of the standing entries (a monotonic deque), for every order: what a closing does to them, that eviction at the front changes
 -- nothing else, that the first is the greatest of all (W4), and what a closing costs.
 -- Assumes nothing.
-use mathlib.Core.Path.{_≡_, refl, _∙_}
-use mathlib.Core.Bool.{Bool, true, false, not, _&&_, _||_, cond}
+use mathlib.Core.Path.{_≡_, refl, sym, ap, _∙_}
+use mathlib.Core.Bool.{and-true, Bool, true, false, not, _&&_, _||_, cond}
 use mathlib.Core.List.{List, [], _∷_, _++_, map}
 use Prim.Native.Nat.{ℕ, _+_, _≤_, zero-le}
 use native.Mathlib.Omega.{arith}
 use lib.ListN.{length, length-append}
 use borrow.Author.Tests.{leb-true, le-leb}
-use Rattle.window.specs.Lists.{filter, all}
+use Rattle.window.specs.Lists.{filter, all, Each}
 use Rattle.window.specs.Orders.{Order, aggregate, greater}
 use Rattle.window.specs.Partials.{Entry, live, entriesFrom, valueOf}
-use Rattle.window.specs.Standing.{exceeds, atMost, standing, frontOf, oneIfAny, comparisons}
+use Rattle.window.specs.Standing.{exceeds, atMost, standing, frontOf, evicted, oneIfAny, comparisons}
 use Rattle.window.specs.Invariant.{Sorted}
 use Rattle.window.proofs.Lists.{each-map, filter-every, length-filter, length-parts, filter-comm}
 use Rattle.window.proofs.Orders.{below-greater}
 
+-- ---- eviction
+
+-- after an entry that starts at h or later, all do
+later-from : {A : Type 0} (h : ℕ) (x : Entry A) (xs : List (Entry A)) → live h (x .start) ≡ true → Each (λ (y : Entry A). x .start ≤ y .start) xs → entriesFrom h xs ≡ xs
+later-from {A} h x xs e s =
+    let le : h ≤ x .start = leb-true h (x .start) e in
+    filter-every (λ (y : Entry A). live h (y .start)) xs
+    (each-map (λ (y : Entry A). x .start ≤ y .start) (λ (y : Entry A). live h (y .start) ≡ true) (λ y k. le-leb h (y .start) (omega arith)) xs s)
+
+-- evicting from the front leaves all entries that start at h or later
+pub evicted-from : {A : Type 0} (h : ℕ) (xs : List (Entry A)) → Sorted xs → evicted h xs ≡ entriesFrom h xs
+evicted-from h [] s = refl
+evicted-from {A} h (x ∷ xs) s = go (live h (x .start)) refl (evicted-from h xs (s .1))
+  where
+    go : (b : Bool) → live h (x .start) ≡ b → evicted h xs ≡ entriesFrom h xs → cond b (x ∷ xs) (evicted h xs) ≡ cond b (x ∷ entriesFrom h xs) (entriesFrom h xs)
+    go true e ih = ap (λ (l : List (Entry A)). x ∷ l) (sym (later-from h x xs e (s .0)))
+    go false e ih = ih
+
+-- ---- closing
+
 module _ {A : Type 0} (below : A → A → Bool) where
   all-snoc : (x : Entry A) (ys : List (Entry A)) (y : Entry A) → all (exceeds below x) (ys ++ (y ∷ [])) ≡ (all (exceeds below x) ys && exceeds below x y)
-  all-snoc x [] y = go (exceeds below x y)
-    where
-      go : (b : Bool) → (b && true) ≡ b
-      go true = refl
-      go false = refl
+  all-snoc x [] y = and-true (exceeds below x y)
   all-snoc x (z ∷ zs) y = go (exceeds below x z) (all-snoc x zs y)
     where
       go : (b : Bool) → all (exceeds below x) (zs ++ (y ∷ [])) ≡ (all (exceeds below x) zs && exceeds below x y)
@@ -53,13 +69,8 @@ module _ {A : Type 0} (below : A → A → Bool) where
           → standing below (cond b (x ∷ entriesFrom h xs) (entriesFrom h xs)) ≡ entriesFrom h (cond (all (exceeds below x) xs) (x ∷ standing below xs) (standing below xs))
       go true e ih = rw kept (both (all (exceeds below x) xs))
         where
-          le : h ≤ x .start
-          le = leb-true h (x .start) e
-
           kept : entriesFrom h xs ≡ xs
-          kept =
-              filter-every (λ (y : Entry A). live h (y .start)) xs
-              (each-map (λ (y : Entry A). x .start ≤ y .start) (λ (y : Entry A). live h (y .start) ≡ true) (λ y k. le-leb h (y .start) (omega (arith, le))) xs (s .0))
+          kept = later-from h x xs e (s .0)
 
           both : (b : Bool) → cond b (x ∷ standing below xs) (standing below xs) ≡ entriesFrom h (cond b (x ∷ standing below xs) (standing below xs))
           both true = rw (e, ← ih, kept)
@@ -72,7 +83,7 @@ module _ {A : Type 0} (below : A → A → Bool) where
 
   -- ---- what a closing costs
 
-  oneIfAny-le : (xs : List (Entry A)) → oneIfAny below xs ≤ 1
+  oneIfAny-le : (xs : List (Entry A)) → oneIfAny xs ≤ 1
   oneIfAny-le [] = zero-le
   oneIfAny-le (x ∷ xs) = omega arith
 
@@ -100,11 +111,7 @@ module _ {A : Type 0} (below : A → A → Bool) where
     -- x exceeds all exactly where it exceeds the greatest
     all-exceeds : (x y : Entry A) (ys : List (Entry A)) → all (exceeds below x) (y ∷ ys) ≡ not (below (x .value) (greatest (y ∷ ys)))
     unfolding greatest
-    all-exceeds x y [] = go (below (x .value) (y .value))
-      where
-        go : (b : Bool) → (not b && true) ≡ not b
-        go true = refl
-        go false = refl
+    all-exceeds x y [] = and-true (exceeds below x y)
     all-exceeds x y (z ∷ zs) =
         rw (all-exceeds x z zs, below-greater below order (x .value) (y .value) (greatest (z ∷ zs)))
         (go (below (x .value) (y .value)) (below (x .value) (greatest (z ∷ zs))))

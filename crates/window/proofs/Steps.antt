@@ -17,10 +17,12 @@ use Rattle.window.specs.Lists.{any, Each}
 use Rattle.window.specs.Queries.{edge, horizon}
 use Rattle.window.specs.Refusals.{firstRefusal, registerChecks, withdrawChecks, readingChecks, hasNumber}
 use Rattle.window.specs.Calls.{Call, start, register, withdraw, reading, totals, OfReading, Answer, accepted, refused}
-use Rattle.window.specs.Model.{State, count, closeAt, closeWhere, holdsReading, enrolled, afterRegister, afterWithdraw, appended, closeAtEdge, afterReading, Stepped, answers, answered, counted, judged, newQuery, step}
+use Rattle.window.specs.Model.{State, count, closeAt, closeWhere, holdsReading, withQuery, afterRegister, afterWithdraw, appended, closeAtEdge, afterReading, Stepped, answers, answered, totalsOf, judged, newQuery, step}
 use Rattle.window.proofs.Lists.{each-append}
 use Rattle.window.proofs.Queries.{horizon-later, horizon-more, horizon-fewer}
+use Rattle.window.specs.Invariant.{Invariant}
 use Rattle.window.proofs.Preserved.{judged-keeps}
+use Rattle.window.proofs.Bounds.{bounded}
 
 -- ---- a refused call changes nothing
 
@@ -33,7 +35,7 @@ judged-refused Passed s t ns bs k a e = accepted-refused ns bs k (sym a ∙ e)
 judged-refused (Refused r) s t ns bs k a e = refl
 
 pub refused-unchanged : (s : State) (c : Call) (k : ℕ) → (step s c) .outcome ≡ refused k → (step s c) .state ≡ s
-unfolding step answered counted
+unfolding step answered totalsOf
 refused-unchanged s start k e = accepted-refused (0 ∷ []) [] k e
 refused-unchanged s (register number kind range slide) k e =
     judged-refused (firstRefusal (registerChecks (s .queries) number kind range slide)) s _ (0 ∷ []) [] k refl e
@@ -62,17 +64,17 @@ unfolding afterReading closeAtEdge appended
 reading-queries s v = (close-keeps (any (edge (count (appended s v))) (s .queries)) (s .openStart) (appended s v)) .1
 
 pub register-readings : (s : State) (q : Query) → (afterRegister s q) .readings ≡ s .readings
-unfolding afterRegister enrolled
+unfolding afterRegister withQuery
 register-readings s q = (close-keeps (holdsReading (count s) (s .openStart)) (s .openStart) s) .0
 
 pub register-queries : (s : State) (q : Query) → (afterRegister s q) .queries ≡ s .queries ++ (q ∷ [])
-unfolding afterRegister enrolled
+unfolding afterRegister withQuery
 register-queries s q = ap (λ (qs : List Query). qs ++ (q ∷ [])) ((close-keeps (holdsReading (count s) (s .openStart)) (s .openStart) s) .1)
 
 -- ---- every reading of the model was handed over by an accepted reading call
 
 pub step-readings : (P : ℤ → Type 0) (s : State) (c : Call) → OfReading P c → Each P (s .readings) → Each P ((step s c) .state .readings)
-unfolding step answered counted afterWithdraw
+unfolding step answered totalsOf afterWithdraw
 step-readings P s start p h = tt
 step-readings P s (register number kind range slide) p h =
     judged-keeps (λ (x : State). Each P (x .readings)) (firstRefusal (registerChecks (s .queries) number kind range slide)) s _ h
@@ -90,22 +92,22 @@ step-readings P s totals p h = h
 abbrev pub horizonOf : State → ℕ
 horizonOf s = horizon (count s) (s .queries)
 
-register-horizon : (s : State) (q : Query) → q .origin ≡ count s → horizonOf s ≤ horizonOf (afterRegister s q)
-register-horizon s q e = rw (register-readings s q, register-queries s q, horizon-more (count s) (s .queries) q e) (le-refl (horizonOf s))
+register-horizon : (s : State) (q : Query) → Each (λ (p : Query). p .origin ≤ count s) (s .queries) → q .origin ≡ count s → horizonOf s ≤ horizonOf (afterRegister s q)
+register-horizon s q h e = rw (register-readings s q, register-queries s q, horizon-more (count s) (s .queries) q h e) (le-refl (horizonOf s))
 
 reading-horizon : (s : State) (v : ℤ) → horizonOf s ≤ horizonOf (afterReading s v)
 reading-horizon s v = rw (reading-readings s v, reading-queries s v, length-append (s .readings) (v ∷ [])) (horizon-later (count s) (s .queries))
 
-pub horizon-rises : (s : State) (c : Call) → (c ≡ start → ⊥) → horizonOf s ≤ horizonOf ((step s c) .state)
-unfolding step answered counted afterWithdraw
-horizon-rises s start n = absurd (n refl)
-horizon-rises s (register number kind range slide) n =
+pub horizon-rises : (s : State) (c : Call) → Invariant s → (c ≡ start → ⊥) → horizonOf s ≤ horizonOf ((step s c) .state)
+unfolding step answered totalsOf afterWithdraw
+horizon-rises s start i n = absurd (n refl)
+horizon-rises s (register number kind range slide) i n =
     judged-keeps (λ (x : State). horizonOf s ≤ horizonOf x) (firstRefusal (registerChecks (s .queries) number kind range slide)) s _ (le-refl (horizonOf s))
-    (λ e. register-horizon s (newQuery s number kind range slide) refl)
-horizon-rises s (withdraw number) n =
+    (λ e. register-horizon s (newQuery s number kind range slide) ((bounded s i) .originsEarly) refl)
+horizon-rises s (withdraw number) i n =
     judged-keeps (λ (x : State). horizonOf s ≤ horizonOf x) (firstRefusal (withdrawChecks (s .queries) number)) s _ (le-refl (horizonOf s))
-    (λ e. horizon-fewer (count s) (λ (q : Query). not (hasNumber number q)) (s .queries))
-horizon-rises s (reading v places) n =
+    (λ e. horizon-fewer (count s) (λ (q : Query). not (hasNumber number q)) (s .queries) ((bounded s i) .originsEarly))
+horizon-rises s (reading v places) i n =
     judged-keeps (λ (x : State). horizonOf s ≤ horizonOf x) (firstRefusal (readingChecks (count s) (s .queries) places)) s _ (le-refl (horizonOf s))
     (λ e. reading-horizon s v)
-horizon-rises s totals n = le-refl (horizonOf s)
+horizon-rises s totals i n = le-refl (horizonOf s)

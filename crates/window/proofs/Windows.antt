@@ -3,6 +3,7 @@
 -- Assumes nothing.
 use mathlib.Core.Path.{_≡_, refl, sym, ap, _∙_, subst}
 use mathlib.Core.Bool.{Bool, true, false, cond}
+use mathlib.Core.Option.{Option, none, some}
 use mathlib.Core.List.{List, [], _∷_, map}
 use Prim.Native.Nat.{ℕ, _-_, _≤_, _<_, max, zero-le}
 use native.Mathlib.Nat.{le-refl, lt-irrefl}
@@ -13,17 +14,20 @@ use lib.ListN.{length}
 use lib.Seq.{length-slice}
 use borrow.Author.Tests.{leb-true}
 use Rattle.window.specs.declared.query.Query.{Query}
-use Rattle.window.specs.Orders.{Order, aggregate, greater, sum, extreme}
-use Rattle.window.specs.Queries.{Limits, lengthLimit, due, windowStart, windowCount, horizon}
+use Rattle.window.specs.Lists.{Each}
+use Rattle.window.specs.Orders.{Order, aggregate, greater, extreme}
+use Rattle.window.specs.Queries.{Limits, lengthLimit, due, windowStart, horizon}
 use Rattle.window.specs.Partials.{Partial, between, entry, entries, partialsFrom, entriesFrom, valueOf}
 use Rattle.window.specs.Standing.{standing, frontOf}
-use Rattle.window.specs.Model.{State, count, window}
-use Rattle.window.specs.Invariant.{Ordered, Tiles, Tracked, Invariant}
+use Rattle.window.specs.Calls.{Call}
+use Rattle.window.specs.Model.{State, count, reached}
+use Rattle.window.specs.Invariant.{Ordered, Tiles, Tracked, Shape, Invariant, FromPartials, DueFromPartials}
 use Rattle.window.proofs.Orders.{greater-assoc}
 use Rattle.window.proofs.Queries.{due-marks, window-marks, window-nonempty, horizon-far}
 use Rattle.window.proofs.Standing.{standing-from, standing-front}
-use Rattle.window.proofs.Tiling.{ordered-le, ordered-sorted, tiles-le, entries-from, aggregate-tiles}
+use Rattle.window.proofs.Tiling.{ordered-le, ordered-weaken, ordered-sorted, tiles-le, entries-from, aggregate-tiles}
 use Rattle.window.proofs.Tracking.{shape-ordered}
+use Rattle.window.proofs.Preserved.{reached-invariant}
 
 -- ---- W1: the window of a due query is tiled by closed partials
 
@@ -42,13 +46,13 @@ window-tiled n ps a q g l t h =
 
 module _ (rs : List ℤ) (m : ℕ) (ps : List Partial) (c : ℕ) (l : m < c) (k : c ≤ length rs) (t : Tiles m (partialsFrom m ps) c) where
   -- its aggregate is that of the partials from there on
-  stretch-aggregate : (op : ℤ → ℤ → ℤ) (none : ℤ) → ((x y z : ℤ) → op (op x y) z ≡ op x (op y z))
-      → aggregate op none (between rs m c) ≡ aggregate op none (map valueOf (entriesFrom m (entries (aggregate op none) rs ps)))
-  stretch-aggregate op none assoc = rw (entries-from (aggregate op none) rs m ps) (go (partialsFrom m ps) t)
+  stretch-aggregate : (op : ℤ → ℤ → ℤ) (e : ℤ) → ((x y z : ℤ) → op (op x y) z ≡ op x (op y z))
+      → aggregate op e (between rs m c) ≡ aggregate op e (map valueOf (entriesFrom m (entries (aggregate op e) rs ps)))
+  stretch-aggregate op e assoc = rw (entries-from (aggregate op e) rs m ps) (go (partialsFrom m ps) t)
     where
-      go : (qs : List Partial) → Tiles m qs c → aggregate op none (between rs m c) ≡ aggregate op none (map valueOf (entries (aggregate op none) rs qs))
+      go : (qs : List Partial) → Tiles m qs c → aggregate op e (between rs m c) ≡ aggregate op e (map valueOf (entries (aggregate op e) rs qs))
       go [] h = absurd (lt-irrefl c (rw h at l))
-      go (q ∷ qs) h = aggregate-tiles rs op none assoc m q qs c k h
+      go (q ∷ qs) h = aggregate-tiles rs op e assoc m q qs c k h
 
   -- its extreme is the value of the first standing entry from there on
   stretch-extreme : (below : ℤ → ℤ → Bool) → Order below → Ordered 0 ps c
@@ -66,23 +70,34 @@ module _ (rs : List ℤ) (m : ℕ) (ps : List Partial) (c : ℕ) (l : m < c) (k 
 
 -- ---- W5: what a due query is answered, from partials
 
--- the count needs no partials
-pub answer-count : (rs : List ℤ) (q : Query) → length (window rs q) ≡ windowCount (length rs) q
-answer-count rs q = length-slice (windowStart (length rs) q) (length rs) rs (le-refl (length rs))
+one-from-partials : (s : State) (a : ℕ) (q : Query) → Limits q → a ≤ count s → Ordered 0 (s .closed) (count s) → Tracked (count s) (s .closed) a q → due (count s) q ≡ true
+    → FromPartials s q
+one-from-partials s a q g l o t h =
+    let n : ℕ = count s in
+    let w : ℕ = windowStart n q in
+    let some-reading : w < n = window-nonempty n q g h in
+    let tiled : Tiles w (partialsFrom w (s .closed)) n = window-tiled n (s .closed) a q g l t h in
+    record {
+      counts = length-slice w n (s .readings) (le-refl n);
+      sums = stretch-aggregate (s .readings) w (s .closed) n some-reading (le-refl n) tiled _+ℤ_ (pos 0) +ℤ-assoc;
+      extremes = λ below order. stretch-extreme (s .readings) w (s .closed) n some-reading (le-refl n) tiled below order o;
+    }
 
-module _ (rs : List ℤ) (ps : List Partial) (a : ℕ) (q : Query) (g : Limits q) (l : a ≤ length rs) (t : Tracked (length rs) ps a q) (h : due (length rs) q ≡ true) where
-  -- the sum is the sum of the sums of the partials from the window start on
-  pub answer-sum : sum (window rs q) ≡ sum (map valueOf (entriesFrom (windowStart (length rs) q) (entries sum rs ps)))
-  answer-sum =
-      stretch-aggregate rs (windowStart (length rs) q) ps (length rs) (window-nonempty (length rs) q g h) (le-refl (length rs)) (window-tiled (length rs) ps a q g l t h)
-      _+ℤ_ (pos 0) +ℤ-assoc
+pub due-from-partials : (s : State) → Invariant s → DueFromPartials s
+due-from-partials s i = go (s .openStart) (i .shape)
+  where
+    each : (a : ℕ) (qs : List Query) → a ≤ count s → Ordered 0 (s .closed) (count s) → Each Limits qs → Each (Tracked (count s) (s .closed) a) qs
+        → Each (λ (q : Query). due (count s) q ≡ true → FromPartials s q) qs
+    each a [] l o g t = tt
+    each a (q ∷ qs) l o g t = (λ h. one-from-partials s a q (g .0) l o (t .0) h, each a qs l o (g .1) (t .1))
 
-  -- the maximum, or the minimum, is the value of the first standing partial from the window start on
-  pub answer-extreme : (below : ℤ → ℤ → Bool) → Order below → Ordered 0 ps (length rs)
-      → extreme below (window rs q) ≡ frontOf (pos 0) (entriesFrom (windowStart (length rs) q) (standing below (entries (extreme below) rs ps)))
-  answer-extreme below order o =
-      stretch-extreme rs (windowStart (length rs) q) ps (length rs) (window-nonempty (length rs) q g h) (le-refl (length rs)) (window-tiled (length rs) ps a q g l t h)
-      below order o
+    go : (o : Option ℕ) → Shape o (count s) (s .queries) (s .closed) → DueFromPartials s
+    go none h = rw (h .0) tt
+    go (some a) h = each a (s .queries) (h .0) (ordered-weaken 0 (s .closed) a (count s) (h .0) (h .1)) (i .withinLimits .limits) (h .3)
+
+-- and so after every list of calls on a fresh model
+pub reached-from-partials : (cs : List Call) → DueFromPartials (reached cs)
+reached-from-partials cs = due-from-partials (reached cs) (reached-invariant cs)
 
 -- ---- W6: the live partials
 
@@ -104,5 +119,5 @@ live-few s i =
     omega (
       arith,
       from-few (horizon (count s) (s .queries)) 0 (s .closed) (count s) (shape-ordered (s .openStart) (count s) (s .queries) (s .closed) (i .shape)),
-      horizon-far (count s) (s .queries) (i .steady .limits),
+      horizon-far (count s) (s .queries) (i .withinLimits .limits),
     )

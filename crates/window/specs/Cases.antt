@@ -42,9 +42,9 @@ abbrev tally : ℕ → ℕ → ℕ → ℕ → Outcome
 tally n p m k = accepted (n ∷ p ∷ m ∷ k ∷ []) []
 
 -- so many registrations, numbered from k on
-abbrev enrolments : ℕ → ℕ → List Row
-enrolments zero k = []
-enrolments (suc m) k = register k 1 1 1 returns ok ∷ enrolments m (k + 1)
+abbrev registrations : ℕ → ℕ → List Row
+registrations zero k = []
+registrations (suc m) k = register k 1 1 1 returns ok ∷ registrations m (k + 1)
 
 -- 1 and 2: maximum, r 3, s 1, over S = 5, 3, 3, 8, -2, 6, 1. M 3 after the third reading; P 7, M 8, N 8 at the end
 abbrev slidingMaximum : List Row
@@ -141,7 +141,7 @@ fieldLimits =
 -- 10: the 33rd query is refused with 8; after one withdrawal it is accepted
 abbrev fullList : List Row
 fullList =
-    (start returns ok ∷ enrolments 32 1) ++ (register 33 1 1 1 returns refused 8 ∷ withdraw 7 returns ok ∷ register 33 1 1 1 returns ok ∷ [])
+    (start returns ok ∷ registrations 32 1) ++ (register 33 1 1 1 returns refused 8 ∷ withdraw 7 returns ok ∷ register 33 1 1 1 returns ok ∷ [])
 
 -- the sample session of "Session lines"; its last row is the T line: P 4, M 4, N 4
 abbrev sampleSession : List Row

@@ -5,19 +5,19 @@ use Prim.Native.Nat.{ℕ, _+_, _*_, _-_, _≤_, _<_, min}
 use mathlib.Core.Path.{_≡_}
 use mathlib.Core.Bool.{Bool, true, false, _||_}
 use mathlib.Core.Option.{Option, none, some}
-use mathlib.Core.List.{List, [], _∷_}
+use mathlib.Core.List.{List, [], _∷_, map}
 use lib.Dec.{eqb}
-use lib.IntN.{ℤ}
+use lib.IntN.{ℤ, pos}
 use lib.Signed.{leZ}
 use lib.ListN.{length}
 use Rattle.window.specs.declared.query.Query.{Query}
 use Rattle.window.specs.Lists.{Each}
-use Rattle.window.specs.Orders.{geZ, extreme}
-use Rattle.window.specs.Queries.{Limits, lengthLimit, queryLimit, countLimit, edge, horizon}
-use Rattle.window.specs.Partials.{Partial, Entry, entries, partialsFrom}
-use Rattle.window.specs.Standing.{standing}
+use Rattle.window.specs.Orders.{Order, geZ, sum, extreme}
+use Rattle.window.specs.Queries.{Limits, lengthLimit, queryLimit, countLimit, due, edge, windowStart, windowCount, horizon}
+use Rattle.window.specs.Partials.{Partial, Entry, entries, partialsFrom, entriesFrom, valueOf}
+use Rattle.window.specs.Standing.{standing, frontOf}
 use Rattle.window.specs.Refusals.{isRegistered, damaged}
-use Rattle.window.specs.Model.{State, count}
+use Rattle.window.specs.Model.{State, count, window}
 
 -- ---- how partials lie
 
@@ -65,27 +65,41 @@ Shape (some a) n qs ps = (a ≤ n) × Ordered 0 ps a × (1 ≤ length qs) × Eac
 
 -- ---- the comparisons made
 
--- with P partials closed, m comparisons made and S partials standing of them all: m + S is at most 2 P - 1, and 0 where P is 0; S is at least 1
--- where P is
-pub record Paid (below : ℤ → ℤ → Bool) (m : ℕ) (readings : List ℤ) (ps : List Partial) : Type 0 where
+-- the amortized bound, with the partials that stand of all closed ones as the potential. With P partials closed, m comparisons made and S partials
+-- standing: m + S is at most 2 P - 1, and 0 where P is 0; S is at least 1 where P is
+pub record Amortized (below : ℤ → ℤ → Bool) (m : ℕ) (readings : List ℤ) (ps : List Partial) : Type 0 where
   pub bound : m + length (standing below (entries (extreme below) readings ps)) + min (length ps) 1 ≤ 2 * length ps
   pub someStand : min (length ps) 1 ≤ length (standing below (entries (extreme below) readings ps))
 
 -- ---- the whole
 
 -- what does not depend on the open partial
-pub record Steady (s : State) : Type 0 where
+pub record WithinLimits (s : State) : Type 0 where
   pub few : length (s .queries) ≤ queryLimit
   pub distinct : Distinct (s .queries)
   pub limits : Each Limits (s .queries)
   pub counted : count s ≤ countLimit
   pub short : Each Short (s .closed)
-  pub maxPaid : Paid leZ (s .maxComparisons) (s .readings) (s .closed)
-  pub minPaid : Paid geZ (s .minComparisons) (s .readings) (s .closed)
+  pub maxAmortized : Amortized leZ (s .maxComparisons) (s .readings) (s .closed)
+  pub minAmortized : Amortized geZ (s .minComparisons) (s .readings) (s .closed)
 
 pub record Invariant (s : State) : Type 0 where
   pub shape : Shape (s .openStart) (count s) (s .queries) (s .closed)
-  pub steady : Steady s
+  pub withinLimits : WithinLimits s
+
+-- ---- what follows from it for windows
+
+-- the window of q at n, from the closed partials that start at its window start or later: its count by the numbers alone, its sum as the sum of their
+-- sums, and its extreme, by every order, as the value of the first of them that stands
+pub record FromPartials (s : State) (q : Query) : Type 0 where
+  pub counts : length (window (s .readings) q) ≡ windowCount (count s) q
+  pub sums : sum (window (s .readings) q) ≡ sum (map valueOf (entriesFrom (windowStart (count s) q) (entries sum (s .readings) (s .closed))))
+  pub extremes : (below : ℤ → ℤ → Bool) → Order below
+      → extreme below (window (s .readings) q) ≡ frontOf (pos 0) (entriesFrom (windowStart (count s) q) (standing below (entries (extreme below) (s .readings) (s .closed))))
+
+-- of every registered query that is due
+abbrev pub DueFromPartials : State → Type 0
+DueFromPartials s = Each (λ (q : Query). due (count s) q ≡ true → FromPartials s q) (s .queries)
 
 -- ---- the bounds that follow from it
 
@@ -96,7 +110,7 @@ pub record Bounded (s : State) : Type 0 where
   -- P is at most n
   pub closedCount : length (s .closed) ≤ count s
   -- at most 4,096 closed partials are live
-  pub live : length (partialsFrom (horizon (count s) (s .queries)) (s .closed)) ≤ lengthLimit
+  pub liveFew : length (partialsFrom (horizon (count s) (s .queries)) (s .closed)) ≤ lengthLimit
   -- an open partial is shorter than every slide, and holds fewer than 4,096 readings; a closed one holds at most 4,096
   pub openWithinSlides : (a : ℕ) → s .openStart ≡ some a → Each (λ (q : Query). count s < a + q .slide) (s .queries)
   pub openShort : (a : ℕ) → s .openStart ≡ some a → count s < a + lengthLimit
@@ -105,4 +119,4 @@ pub record Bounded (s : State) : Type 0 where
   pub closedBefore : Each (λ (p : Partial). p .start < count s) (s .closed)
   -- no registration point is above n, and the queries are not taken for damaged
   pub originsEarly : Each (λ (q : Query). q .origin ≤ count s) (s .queries)
-  pub intact : damaged (count s) (s .queries) ≡ false
+  pub notDamaged : damaged (count s) (length (s .queries)) (s .queries) ≡ false

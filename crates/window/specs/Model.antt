@@ -86,13 +86,13 @@ holdsReading n none = false
 holdsReading n (some a) = ltb a n
 
 -- the query joins the end of the list, and the open partial starts at n
-unfoldable pub enrolled : State → Query → State
-enrolled s q =
+unfoldable pub withQuery : State → Query → State
+withQuery s q =
     stateWith (s .readings) (s .queries ++ (q ∷ [])) (some (count s)) (s .closed) (s .maxComparisons) (s .minComparisons)
 
 -- register: if an open partial holds a reading, it is closed. Then the query joins.
 unfoldable pub afterRegister : State → Query → State
-afterRegister s q = enrolled (closeWhere (holdsReading (count s) (s .openStart)) (s .openStart) s) q
+afterRegister s q = withQuery (closeWhere (holdsReading (count s) (s .openStart)) (s .openStart) s) q
 
 -- the open partial is dropped unclosed where no query is left
 abbrev pub openIfAny : List Query → Option ℕ → Option ℕ
@@ -119,7 +119,7 @@ afterReading s v = closeAtEdge (appended s v)
 
 -- ---- answers, from the raw readings
 
--- the value of a kind over the readings of a window
+-- the value of a kind over the readings of a window; a kind that is none of the first three is 4, the minimum
 abbrev pub windowValue : ℕ → List ℤ → ℤ
 windowValue kind w =
     cond (eqb kind sumKind) (sum w)
@@ -154,8 +154,8 @@ unfoldable pub answered : State → Stepped
 answered s = record { state = s; outcome = accepted (length (answers s) ∷ []) (answers s) }
 
 -- totals: n, P, M, N, changing nothing
-unfoldable pub counted : State → Stepped
-counted s =
+unfoldable pub totalsOf : State → Stepped
+totalsOf s =
     record {
       state = s;
       outcome = accepted (count s ∷ length (s .closed) ∷ s .maxComparisons ∷ s .minComparisons ∷ []) [];
@@ -179,7 +179,7 @@ step s (withdraw number) =
     judged (firstRefusal (withdrawChecks (s .queries) number)) s (done (afterWithdraw s number))
 step s (reading v places) =
     judged (firstRefusal (readingChecks (count s) (s .queries) places)) s (answered (afterReading s v))
-step s totals = counted s
+step s totals = totalsOf s
 
 -- ---- a list of calls
 

@@ -28,6 +28,7 @@ pub record Entry (A : Type 0) : Type 0 where
   pub start : ℕ
   pub value : A
 
+-- only laws use it
 abbrev pub valueOf : {A : Type 0} → Entry A → A
 valueOf e = e .value
 
@@ -41,9 +42,10 @@ entries f readings ps = map (entry f readings) ps
 abbrev pub live : ℕ → ℕ → Bool
 live horizon start = leb horizon start
 
--- the partials, or entries, that start at h or later: where h is the horizon, the live ones
+-- the partials that start at h or later: where h is the horizon, the live ones
 abbrev pub partialsFrom : ℕ → List Partial → List Partial
 partialsFrom h ps = filter (λ (p : Partial). live h (p .start)) ps
 
+-- the same of entries; only laws use it
 abbrev pub entriesFrom : {A : Type 0} → ℕ → List (Entry A) → List (Entry A)
 entriesFrom {A} h es = filter (λ (e : Entry A). live h (e .start)) es

@@ -3,25 +3,30 @@
 -- Assumes nothing.
 use Prim.Native.Nat.{ℕ, _+_, _-_, _%_, _≤_, max, min}
 use mathlib.Core.Bool.{Bool, _&&_, _||_}
-use mathlib.Core.List.{List, [], _∷_}
+use mathlib.Core.List.{List, map}
 use lib.Dec.{ltb, eqb}
 use Rattle.window.specs.declared.query.Query.{Query}
+use Rattle.window.specs.Orders.{aggregate}
 
 -- ---- limits
 
--- the greatest query number; the number of kinds; the greatest range and slide; the most queries registered together; the greatest n
+-- a query number is 1 to 65,535
 abbrev pub numberLimit : ℕ
 numberLimit = 65535
 
+-- a kind is 1 to 4
 abbrev pub kindLimit : ℕ
 kindLimit = 4
 
+-- a range and a slide are each 1 to 4,096 readings
 abbrev pub lengthLimit : ℕ
 lengthLimit = 4096
 
+-- at most 32 queries are registered together
 abbrev pub queryLimit : ℕ
 queryLimit = 32
 
+-- n is 0 to 4,294,967,295
 abbrev pub countLimit : ℕ
 countLimit = 4294967295
 
@@ -47,6 +52,7 @@ countKind = 2
 abbrev pub maximumKind : ℕ
 maximumKind = 3
 
+-- the one that `windowValue` takes for what is none of the others
 abbrev pub minimumKind : ℕ
 minimumKind = 4
 
@@ -73,8 +79,7 @@ windowStart n q = max (q .origin) (n - q .range)
 abbrev pub windowCount : ℕ → Query → ℕ
 windowCount n q = n - windowStart n q
 
--- the horizon at n: the least max(g, n - r) over the registered queries. With none registered nothing is measured by it; n itself serves
--- there as a value that is at least every window start.
+-- the horizon at n: the least max(g, n - r) over the registered queries. With none registered nothing closes, and nothing is measured by it; it is n
+-- there.
 abbrev pub horizon : ℕ → List Query → ℕ
-horizon n [] = n
-horizon n (q ∷ qs) = min (windowStart n q) (horizon n qs)
+horizon n qs = aggregate min n (map (windowStart n) qs)

@@ -103,6 +103,7 @@ abbrev pub sharedNumber : List Query → Bool
 sharedNumber [] = false
 sharedNumber (q ∷ qs) = isRegistered (q .number) qs || sharedNumber qs
 
--- the query count is above 32, or one of these
-unfoldable pub damaged : ℕ → List Query → Bool
-damaged n qs = ltb queryLimit (length qs) || (any (brokenRecord n) qs || sharedNumber qs)
+-- with n readings taken: the query count is above 32, or one of these holds of the used records qs, which are as many as that count says
+-- wherever it is at most 32
+unfoldable pub damaged : (n queryCount : ℕ) → List Query → Bool
+damaged n queryCount qs = ltb queryLimit queryCount || (any (brokenRecord n) qs || sharedNumber qs)

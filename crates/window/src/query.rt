@@ -27,7 +27,7 @@ pub struct Query {
 }
 
 impl Query {
-    // How far m is from where the slides are counted. Due and edge are counted by it alone.
+    // How far m is from where the slides are counted. Due and edge depend on m through it, and on m > g.
     fn phase(self, m: Count) -> Count
         requires { ⌜ self .origin ≤ m ⌝ }
         ensures { λ r. ⌜ r ≡ phase m self ⌝ }
