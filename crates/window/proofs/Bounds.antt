@@ -22,7 +22,7 @@ use Rattle.window.specs.Calls.{Call, IsReading}
 use Rattle.window.specs.Model.{State, count, reached}
 use Rattle.window.specs.Invariant.{Ordered, Tracked, Distinct, Shape, Amortized, Invariant, Bounded}
 use Rattle.window.proofs.Lists.{or-neither, each-map}
-use Rattle.window.proofs.Refusals.{limits-none}
+use Rattle.window.proofs.Refusals.{limits-any}
 use Rattle.window.proofs.Tiling.{ordered-before, ordered-count}
 use Rattle.window.proofs.Tracking.{shape-ordered, open-within-slide}
 use Rattle.window.proofs.Preserved.{reached-invariant}
@@ -76,7 +76,7 @@ not-broken n [] g h = refl
 not-broken n (q ∷ qs) g h =
     or-neither (brokenRecord n q) (any (brokenRecord n) qs)
     (or-neither (any applying (fieldChecks (q .number) (q .kind) (q .range) (q .slide))) (ltb n (q .origin))
-    (limits-none q (g .0))
+    (limits-any q (g .0))
     (le-ltb n (q .origin) (h .0)))
     (not-broken n qs (g .1) (h .1))
 

@@ -24,28 +24,28 @@ refused-passed : {X : Type 0} (r : Refusal) → Refused r ≡ Passed → X
 refused-passed r e = let z : _≡_ {A = ℕ} 0 1 = cc in absurd (omega arith)
 
 -- where the checks pass, none applies
-passed-none : (cs : List Check) → firstRefusal cs ≡ Passed → Each NotApplying cs
-passed-none [] e = tt
-passed-none (c ∷ cs) e = go (c .applies) e (λ k. passed-none cs k)
+passed-each : (cs : List Check) → firstRefusal cs ≡ Passed → Each NotApplying cs
+passed-each [] e = tt
+passed-each (c ∷ cs) e = go (c .applies) e (λ k. passed-each cs k)
   where
     go : (b : Bool) → cond b (Refused (c .refusal)) (firstRefusal cs) ≡ Passed → (firstRefusal cs ≡ Passed → Each NotApplying cs) → (b ≡ false) × Each NotApplying cs
     go true k ih = refused-passed (c .refusal) k
     go false k ih = (refl, ih k)
 
--- the checks pass exactly where none applies, as `any` tests it
-pub applies-none : (cs : List Check) → firstRefusal cs ≡ Passed → any applying cs ≡ false
-applies-none [] e = refl
-applies-none (c ∷ cs) e =
-    let a = passed-none (c ∷ cs) e in
-    or-neither (c .applies) (any applying cs) (a .0) (applies-none cs (rw (a .0) at e))
+-- the checks pass exactly where none applies, and refuse where some does, as `any` tests it
+pub passed-any : (cs : List Check) → firstRefusal cs ≡ Passed → any applying cs ≡ false
+passed-any [] e = refl
+passed-any (c ∷ cs) e =
+    let a = passed-each (c ∷ cs) e in
+    or-neither (c .applies) (any applying cs) (a .0) (passed-any cs (rw (a .0) at e))
 
-none-passed : (cs : List Check) → any applying cs ≡ false → firstRefusal cs ≡ Passed
-none-passed [] e = refl
-none-passed (c ∷ cs) e = rw (not-left (c .applies) (any applying cs) e) (none-passed cs (not-right (c .applies) (any applying cs) e))
+pub any-passed : (cs : List Check) → any applying cs ≡ false → firstRefusal cs ≡ Passed
+any-passed [] e = refl
+any-passed (c ∷ cs) e = rw (not-left (c .applies) (any applying cs) e) (any-passed cs (not-right (c .applies) (any applying cs) e))
 
-pub applies-some : (cs : List Check) (r : Refusal) → firstRefusal cs ≡ Refused r → any applying cs ≡ true
-applies-some [] r e = refused-passed r (sym e)
-applies-some (c ∷ cs) r e = go (c .applies) e (λ k. applies-some cs r k)
+pub refused-any : (cs : List Check) (r : Refusal) → firstRefusal cs ≡ Refused r → any applying cs ≡ true
+refused-any [] r e = refused-passed r (sym e)
+refused-any (c ∷ cs) r e = go (c .applies) e (λ k. refused-any cs r k)
   where
     go : (b : Bool) → cond b (Refused (c .refusal)) (firstRefusal cs) ≡ Refused r → (firstRefusal cs ≡ Refused r → any applying cs ≡ true)
         → (b || any applying cs) ≡ true
@@ -84,11 +84,11 @@ fields-within q a =
 
 -- the checks of the fields, and so `check_fields`, pass exactly the fields within the limits
 pub fields-passed : (q : Query) → firstRefusal (fieldChecks (q .number) (q .kind) (q .range) (q .slide)) ≡ Passed → Limits q
-fields-passed q e = fields-within q (passed-none (fieldChecks (q .number) (q .kind) (q .range) (q .slide)) e)
+fields-passed q e = fields-within q (passed-each (fieldChecks (q .number) (q .kind) (q .range) (q .slide)) e)
 
-pub limits-none : (q : Query) → Limits q → any applying (fieldChecks (q .number) (q .kind) (q .range) (q .slide)) ≡ false
+pub limits-any : (q : Query) → Limits q → any applying (fieldChecks (q .number) (q .kind) (q .range) (q .slide)) ≡ false
 unfolding fieldChecks
-limits-none q g =
+limits-any q g =
     rw (
       within-both 1 numberLimit (q .number) (g .numberLow) (g .numberHigh),
       within-both 1 kindLimit (q .kind) (g .kindLow) (g .kindHigh),
@@ -97,7 +97,7 @@ limits-none q g =
     )
 
 pub limits-passed : (q : Query) → Limits q → firstRefusal (fieldChecks (q .number) (q .kind) (q .range) (q .slide)) ≡ Passed
-limits-passed q g = none-passed (fieldChecks (q .number) (q .kind) (q .range) (q .slide)) (limits-none q g)
+limits-passed q g = any-passed (fieldChecks (q .number) (q .kind) (q .range) (q .slide)) (limits-any q g)
 
 -- ---- a registration and a reading
 
@@ -110,7 +110,7 @@ pub record Joins (qs : List Query) (q : Query) : Type 0 where
 pub register-passed : (qs : List Query) (q : Query) → firstRefusal (registerChecks qs (q .number) (q .kind) (q .range) (q .slide)) ≡ Passed → Joins qs q
 unfolding registerChecks fieldChecks listChecks
 register-passed qs q e =
-    let a = passed-none (registerChecks qs (q .number) (q .kind) (q .range) (q .slide)) e in
+    let a = passed-each (registerChecks qs (q .number) (q .kind) (q .range) (q .slide)) e in
     record {
       limits = fields-within q (a .0, (a .1 .0, (a .1 .1 .0, (a .1 .1 .1 .0, tt))));
       new = a .1 .1 .1 .1 .0;
@@ -125,5 +125,5 @@ pub record Counts (n : ℕ) (qs : List Query) (places : ℕ) : Type 0 where
 pub reading-passed : (n : ℕ) (qs : List Query) (places : ℕ) → firstRefusal (readingChecks n qs places) ≡ Passed → Counts n qs places
 unfolding readingChecks
 reading-passed n qs places e =
-    let a = passed-none (readingChecks n qs places) e in
+    let a = passed-each (readingChecks n qs places) e in
     record { room = leb-false countLimit n (a .0); answersFit = ltb-false places _ (a .1 .0) }
