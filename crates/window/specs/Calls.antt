@@ -10,6 +10,7 @@ use mir.Val.{SFits}
 abbrev pub IsReading : ℤ → Type 0
 IsReading z = SFits w32 z
 
+-- a call, with what the caller hands over
 pub data Call : Type 0 where
   start : Call
   register : (number kind range slide : ℕ) → Call

@@ -114,6 +114,7 @@ appended s v =
 unfoldable pub closeAtEdge : State → State
 closeAtEdge s = closeWhere (any (edge (count s)) (s .queries)) (s .openStart) s
 
+-- reading: it joins, and what is open closes at an edge
 unfoldable pub afterReading : State → ℤ → State
 afterReading s v = closeAtEdge (appended s v)
 
@@ -130,6 +131,7 @@ windowValue kind w =
 abbrev pub window : List ℤ → Query → List ℤ
 window readings q = between readings (windowStart (length readings) q) (length readings)
 
+-- the answer of q from the raw readings: query number, kind, count of readings in the window, value
 unfoldable pub answer : List ℤ → Query → Answer
 answer readings q =
     let w : List ℤ = window readings q in
@@ -141,6 +143,7 @@ answers s = map (answer (s .readings)) (dueAt (count s) (s .queries))
 
 -- ---- a call
 
+-- the state after a call, and what the call returned
 pub record Stepped : Type 0 where
   pub state : State
   pub outcome : Outcome
@@ -166,10 +169,12 @@ abbrev pub judged : Verdict → State → Stepped → Stepped
 judged Passed s t = t
 judged (Refused r) s t = record { state = s; outcome = refused (refusalNumber r) }
 
+-- the query that a registration brings, with g = n
 abbrev pub newQuery : State → (number kind range slide : ℕ) → Query
 newQuery s number kind range slide =
     record { number = number; kind = kind; range = range; slide = slide; origin = count s }
 
+-- one call: the checks of its kind are judged on the state and the call, then it is done
 unfoldable pub step : State → Call → Stepped
 step s start = done initial
 step s (register number kind range slide) =
@@ -183,13 +188,16 @@ step s totals = totalsOf s
 
 -- ---- a list of calls
 
+-- what each call of a list returned, in order, and the state after them
 pub record Ran : Type 0 where
   pub outcomes : List Outcome
   pub state : State
 
+-- a first outcome, and then those of the rest
 abbrev pub followedBy : Outcome → Ran → Ran
 followedBy o r = record { outcomes = o ∷ r .outcomes; state = r .state }
 
+-- a list of calls, each on the state that the call before left
 abbrev pub run : State → List Call → Ran
 run s [] = record { outcomes = []; state = s }
 run s (c ∷ cs) = followedBy ((step s c) .outcome) (run ((step s c) .state) cs)

@@ -8,7 +8,7 @@ use lib.IntN.{ℤ, pos, _+ℤ_}
 use lib.Signed.{leZ}
 
 module _ {A : Type 0} (op : A → A → A) (none : A) where
-  -- the elements joined by `op`, and `none` for the empty list: no aggregate starts from a value that isn't in the list
+  -- the elements joined by `op`, and `none` for the empty list. Of a list that has an element, nothing else goes into it
   abbrev pub aggregate : List A → A
   aggregate [] = none
   aggregate (x ∷ []) = x
@@ -32,6 +32,7 @@ greater below a b = cond (below a b) b a
 abbrev pub geZ : ℤ → ℤ → Bool
 geZ = converse leZ
 
+-- the sum; 0 of the empty list
 abbrev pub sum : List ℤ → ℤ
 sum = aggregate _+ℤ_ (pos 0)
 
@@ -39,6 +40,7 @@ sum = aggregate _+ℤ_ (pos 0)
 abbrev pub extreme : (ℤ → ℤ → Bool) → List ℤ → ℤ
 extreme below = aggregate (greater below) (pos 0)
 
+-- the maximum and the minimum. Neither starts from 0: the 0 of `extreme` stands for the empty list alone, and no window that is due is empty
 abbrev pub maximum : List ℤ → ℤ
 maximum = extreme leZ
 

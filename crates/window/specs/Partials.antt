@@ -12,6 +12,7 @@ pub record Partial : Type 0 where
   pub start : ℕ
   pub stop : ℕ
 
+-- the partial that starts at a and closes at b
 abbrev pub spanning : ℕ → ℕ → Partial
 spanning a b = record { start = a; stop = b }
 
@@ -32,9 +33,11 @@ pub record Entry (A : Type 0) : Type 0 where
 abbrev pub valueOf : {A : Type 0} → Entry A → A
 valueOf e = e .value
 
+-- the entry of a partial, by the aggregate f
 abbrev pub entry : {A B : Type 0} → (List A → B) → List A → Partial → Entry B
 entry f readings p = record { start = p .start; value = f (held readings p) }
 
+-- the entries of partials, in their order
 abbrev pub entries : {A B : Type 0} → (List A → B) → List A → List Partial → List (Entry B)
 entries f readings ps = map (entry f readings) ps
 

@@ -14,6 +14,7 @@ use Rattle.window.specs.declared.refusal.Verdict.the-variants.{Passed, R
 use Rattle.window.specs.Lists.{filter, any}
 use Rattle.window.specs.Queries.{numberLimit, kindLimit, lengthLimit, queryLimit, countLimit, due}
 
+-- document 01's number of each refusal
 abbrev pub refusalNumber : Refusal → ℕ
 refusalNumber TableTooShort = 1
 refusalNumber Damaged = 2
@@ -36,9 +37,11 @@ pub record Check : Type 0 where
   pub applies : Bool
   pub refusal : Refusal
 
+-- whether the check's condition holds, as a test
 abbrev pub applying : Check → Bool
 applying c = c .applies
 
+-- the check with this condition and this refusal
 abbrev pub check : Bool → Refusal → Check
 check condition refusal = record { applies = condition; refusal = refusal }
 
@@ -47,12 +50,15 @@ abbrev pub firstRefusal : List Check → Verdict
 firstRefusal [] = Passed
 firstRefusal (c ∷ cs) = cond (c .applies) (Refused (c .refusal)) (firstRefusal cs)
 
+-- x is low to high
 abbrev pub within : ℕ → ℕ → ℕ → Bool
 within low high x = leb low x && leb x high
 
+-- the query has this number
 abbrev pub hasNumber : ℕ → Query → Bool
 hasNumber number q = eqb number (q .number)
 
+-- that number is registered now
 abbrev pub isRegistered : ℕ → List Query → Bool
 isRegistered number qs = any (hasNumber number) qs
 
@@ -69,6 +75,7 @@ fieldChecks number kind range slide =
 unfoldable pub listChecks : List Query → ℕ → List Check
 listChecks qs number = check (isRegistered number qs) NumberTaken ∷ check (leb queryLimit (length qs)) ListFull ∷ []
 
+-- register: 3 to 8
 unfoldable pub registerChecks : List Query → (number kind range slide : ℕ) → List Check
 registerChecks qs number kind range slide = fieldChecks number kind range slide ++ listChecks qs number
 
