@@ -102,7 +102,7 @@ reached-from-partials cs = due-from-partials (reached cs) (reached-invariant cs)
 -- ---- W6: the live partials
 
 -- partials of at least one reading each, that start at h or later
-from-few : (h a : ℕ) (ps : List Partial) (c : ℕ) → Ordered a ps c → length (partialsFrom h ps) ≤ c - max a h
+pub from-few : (h a : ℕ) (ps : List Partial) (c : ℕ) → Ordered a ps c → length (partialsFrom h ps) ≤ c - max a h
 from-few h a [] c o = zero-le
 from-few h a (p ∷ ps) c o = go (leb h (p .start)) refl (from-few h (p .stop) ps c (o .2))
   where

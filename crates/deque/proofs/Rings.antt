@@ -1,0 +1,191 @@
+-- The laws of a ring's view: eviction, room for one more, a store behind the newest, and the search by start.
+-- Assumes nothing.
+use Prim.Native.Nat.{ℕ, zero, suc, _+_, _-_, _%_, _<_, _≤_}
+use mathlib.Core.Path.{_≡_, refl, sym, ap, ap₂, _∙_}
+use mathlib.Core.Bool.{Bool, true, false, cond}
+use mathlib.Core.List.{List, [], _∷_, _++_, map}
+use native.Mathlib.Omega.{arith}
+use lib.ListN.{length, getD, set, drop, length-append}
+use lib.Seq.{getD-set-same, getD-set-other, drop-set-lt, drop-append-le}
+use borrow.Author.Tests.{leb-true, leb-false, le-leb, lt-leb}
+use Rattle.window.specs.Lists.{Each}
+use Rattle.window.specs.Partials.{Entry, live}
+use Rattle.window.specs.Standing.{evicted}
+use Rattle.window.specs.Invariant.{Sorted}
+use Rattle.deque.specs.declared.ring.Ring.{Ring}
+use Rattle.deque.specs.Rings.{capacity, place, Fits, listed, view, startAt, startsOf, advanced, countBefore, NeverFalls, newest}
+use Rattle.deque.proofs.Listed.{listed-cong, length-listed, listed-front, listed-more, listed-drop, listed-map}
+
+-- the ring that starts at place h and has n entries
+abbrev pub ringOf : ℕ → ℕ → Ring
+ringOf h n = record { head = h; len = n }
+
+-- ---- eviction
+
+-- without the k oldest entries, the view is the list without its first k
+pub view-advanced : {A : Type 0} (content : ℕ → A) (k : ℕ) (r : Ring) → view content (advanced k r) ≡ drop k (view content r)
+view-advanced content k r =
+    listed-cong (r .len - k) (λ j. content (place (place (r .head) k) j)) (λ j. content (place (r .head) (k + j))) (λ j l. ap content (moved (r .head) j))
+    ∙ sym (listed-drop k (r .len) (λ j. content (place (r .head) j)))
+  where
+    moved : (h j : ℕ) → ((h + k) % 4096 + j) % 4096 ≡ (h + (k + j)) % 4096
+    moved h j = omega arith
+
+pub count-le : (h : ℕ) (ss : List ℕ) → countBefore h ss ≤ length ss
+unfolding countBefore
+count-le h [] = omega arith
+count-le h (s ∷ ss) = go (live h s) (count-le h ss)
+  where
+    go : (b : Bool) → countBefore h ss ≤ length ss → cond b 0 (suc (countBefore h ss)) ≤ suc (length ss)
+    go true l = omega arith
+    go false l = omega arith
+
+-- advancing keeps a ring usable
+pub advanced-fits : (k : ℕ) (r : Ring) → Fits r → Fits (advanced k r)
+advanced-fits k r f = record { inside = omega arith; few = omega arith }
+
+-- without none of them, it is the same
+pub unmoved : (h n : ℕ) → h < capacity → advanced 0 (ringOf h n) ≡ ringOf h n
+unmoved h n hh = ap₂ ringOf at-head whole
+  where
+    at-head : (h + 0) % 4096 ≡ h
+    at-head = omega arith
+
+    whole : n - 0 ≡ n
+    whole = omega arith
+
+-- one turn of the loop that evicts: the oldest starts before the horizon, and goes
+pub evict-step : (starts : List ℕ) (hz h n : ℕ) → h < capacity → 0 < n → startAt starts h < hz
+    → advanced (countBefore hz (startsOf starts (ringOf h n))) (ringOf h n) ≡ advanced (countBefore hz (startsOf starts (ringOf (place h 1) (n - 1)))) (ringOf (place h 1) (n - 1))
+unfolding countBefore
+evict-step starts hz h n hh hn lt =
+    ap (λ (ss : List ℕ). advanced (countBefore hz ss) (ringOf h n)) (listed-front n (λ j. startAt starts (place h j)) hn)
+    ∙ rw (at-head, lt-leb hz (startAt starts h) lt, listed-cong (n - 1) (λ j. startAt starts (place h (suc j))) (λ j. startAt starts (place (place h 1) j)) (λ j l. ap (startAt starts) (moved j)))
+    (ap₂ ringOf (later (countBefore hz (startsOf starts (ringOf (place h 1) (n - 1))))) (less (countBefore hz (startsOf starts (ringOf (place h 1) (n - 1))))))
+  where
+    at-head : (h + 0) % 4096 ≡ h
+    at-head = omega arith
+
+    moved : (j : ℕ) → (h + suc j) % 4096 ≡ ((h + 1) % 4096 + j) % 4096
+    moved j = omega arith
+
+    later : (k : ℕ) → (h + suc k) % 4096 ≡ ((h + 1) % 4096 + k) % 4096
+    later k = omega arith
+
+    less : (k : ℕ) → n - suc k ≡ (n - 1) - k
+    less k = omega arith
+
+-- it does not, and the ring stays as it is
+pub evict-stop : (starts : List ℕ) (hz h n : ℕ) → h < capacity → 0 < n → hz ≤ startAt starts h → advanced (countBefore hz (startsOf starts (ringOf h n))) (ringOf h n) ≡ ringOf h n
+unfolding countBefore
+evict-stop starts hz h n hh hn le =
+    ap (λ (ss : List ℕ). advanced (countBefore hz ss) (ringOf h n)) (listed-front n (λ j. startAt starts (place h j)) hn)
+    ∙ rw (at-head, le-leb hz (startAt starts h) le) (unmoved h n hh)
+  where
+    at-head : (h + 0) % 4096 ≡ h
+    at-head = omega arith
+
+-- none is left
+pub evict-none : (starts : List ℕ) (hz h n : ℕ) → h < capacity → n ≤ 0 → advanced (countBefore hz (startsOf starts (ringOf h n))) (ringOf h n) ≡ ringOf h n
+unfolding countBefore listed
+evict-none starts hz h zero hh l = unmoved h 0 hh
+evict-none starts hz h (suc n) hh l = absurd (omega arith)
+
+-- ---- room for one more
+
+-- a ring that is not full stays as it is
+pub room-spare : (h n : ℕ) → h < capacity → n < capacity → ringOf h n ≡ advanced (n - 4095) (ringOf h n)
+room-spare h n hh hn = ap₂ ringOf at-head whole
+  where
+    at-head : h ≡ (h + (n - 4095)) % 4096
+    at-head = omega arith
+
+    whole : n ≡ n - (n - 4095)
+    whole = omega arith
+
+-- a full one loses its oldest
+pub room-full : (h n next : ℕ) → n ≤ capacity → capacity ≤ n → next ≡ place h 1 → ringOf next (n - 1) ≡ advanced (n - 4095) (ringOf h n)
+room-full h n next hn full e = ap₂ ringOf (e ∙ moved) less
+  where
+    moved : (h + 1) % 4096 ≡ (h + (n - 4095)) % 4096
+    moved = omega arith
+
+    less : n - 1 ≡ n - (n - 4095)
+    less = omega arith
+
+-- ---- the search
+
+each-listed : {A : Type 0} (P : A → Type 0) (n : ℕ) (f : ℕ → A) → Each P (listed n f) → (j : ℕ) → j < n → P (f j)
+unfolding listed
+each-listed P zero f h j l = absurd (omega arith)
+each-listed P (suc n) f h zero l = h .0
+each-listed P (suc n) f h (suc j) l = each-listed P n (λ i. f (suc i)) (h .1) j (omega arith)
+
+-- starts that never fall, by index
+pub rising : (n : ℕ) (f : ℕ → ℕ) → NeverFalls (listed n f) → (p q : ℕ) → p ≤ q → q < n → f p ≤ f q
+unfolding listed
+rising zero f h p q l k = absurd (omega arith)
+rising (suc n) f h zero zero l k = omega arith
+rising (suc n) f h zero (suc q) l k = each-listed (λ (t : ℕ). f 0 ≤ t) n (λ i. f (suc i)) (h .0) q (omega arith)
+rising (suc n) f h (suc p) zero l k = absurd (omega arith)
+rising (suc n) f h (suc p) (suc q) l k = rising n (λ i. f (suc i)) (h .1) p q (omega arith) (omega arith)
+
+-- the index that parts the starts before m from the others is their count
+pub count-parted : (m n : ℕ) (f : ℕ → ℕ) (r : ℕ) → r ≤ n → ((k : ℕ) → k < r → f k < m) → ((k : ℕ) → r ≤ k → k < n → m ≤ f k) → r ≡ countBefore m (listed n f)
+unfolding listed countBefore
+count-parted m zero f r l below above = omega arith
+count-parted m (suc n) f zero l below above = rw (le-leb m (f 0) (above 0 (omega arith) (omega arith)))
+count-parted m (suc n) f (suc r) l below above =
+    rw (lt-leb m (f 0) (below 0 (omega arith)))
+    (ap suc (count-parted m n (λ i. f (suc i)) r (omega arith) (λ k h. below (suc k) (omega arith)) (λ k h i. above (suc k) (omega arith) (omega arith))))
+
+-- ---- entries with a start, of any type
+
+-- evicting entries one after the other drops as many as start before h
+pub evicted-count : {A : Type 0} (h : ℕ) (es : List (Entry A)) → drop (countBefore h (map (λ (e : Entry A). e .start) es)) es ≡ evicted h es
+unfolding countBefore
+evicted-count h [] = refl
+evicted-count {A} h (e ∷ es) = go (live h (e .start)) (evicted-count h es)
+  where
+    starts : List ℕ
+    starts = map (λ (x : Entry A). x .start) es
+
+    go : (b : Bool) → drop (countBefore h starts) es ≡ evicted h es → drop (cond b 0 (suc (countBefore h starts))) (e ∷ es) ≡ cond b (e ∷ es) (evicted h es)
+    go true ih = refl
+    go false ih = ih
+
+-- sorted entries have starts that never fall
+pub sorted-starts : {A : Type 0} (es : List (Entry A)) → Sorted es → NeverFalls (map (λ (e : Entry A). e .start) es)
+sorted-starts [] s = tt
+sorted-starts {A} (e ∷ es) s = (go es (s .0), sorted-starts es (s .1))
+  where
+    go : (xs : List (Entry A)) → Each (λ (x : Entry A). e .start ≤ x .start) xs → Each (λ (t : ℕ). e .start ≤ t) (map (λ (x : Entry A). x .start) xs)
+    go [] h = tt
+    go (x ∷ xs) h = (h .0, go xs (h .1))
+
+-- ---- a store behind the newest
+
+-- the view of a ring with one entry more, where the other entries are as they were
+pub view-pushed : {A : Type 0} (before after : ℕ → A) (e : A) (h n : ℕ) → ((j : ℕ) → j < n → after (place h j) ≡ before (place h j)) → after (place h n) ≡ e
+    → view after (ringOf h (n + 1)) ≡ view before (ringOf h n) ++ (e ∷ [])
+view-pushed {A} before after e h n same new =
+    listed-more n (λ j. after (place h j))
+    ∙ ap₂ _++_ (listed-cong n (λ j. after (place h j)) (λ j. before (place h j)) same) (ap (λ (x : A). x ∷ []) new)
+
+-- a store at the place of entry n leaves what stands at the places of the others
+pub store-other : {A : Type 0} (t : List A) (h n : ℕ) (a d : A) → n < capacity → (j : ℕ) → j < n → getD (set t (place h n) a) (place h j) d ≡ getD t (place h j) d
+store-other t h n a d hn j l = getD-set-other t (place h n) (place h j) a d (λ e. omega arith)
+
+pub store-same : {A : Type 0} (t : List A) (h n : ℕ) (a d : A) → capacity ≤ length t → getD (set t (place h n) a) (place h n) d ≡ a
+store-same t h n a d l = getD-set-same t (place h n) a d (omega arith)
+
+-- and what lies beyond the ring
+pub store-beyond : {A : Type 0} (t : List A) (p h n : ℕ) (a : A) → p ≡ place h n → drop capacity (set t p a) ≡ drop capacity t
+store-beyond t p h n a e = drop-set-lt capacity t p a (omega arith)
+
+-- the newest of a list with one more at the end
+pub newest-more : {A : Type 0} (xs : List A) (y : A) → newest capacity (xs ++ (y ∷ [])) ≡ drop (length xs - 4095) xs ++ (y ∷ [])
+newest-more xs y = ap (λ (k : ℕ). drop k (xs ++ (y ∷ []))) less ∙ drop-append-le (length xs - 4095) xs (y ∷ []) (omega arith)
+  where
+    less : length (xs ++ (y ∷ [])) - 4096 ≡ length xs - 4095
+    less = omega (arith, length-append xs (y ∷ []))

@@ -1,0 +1,129 @@
+use mathlib.Core.Path.{_≡_, refl, sym, _∙_}
+use mathlib.Core.List.{List, [], _∷_, _++_}
+use Prim.Native.Nat.{ℕ, _+_}
+use borrow.Author.Needs.{needs}
+use native.Mathlib.Omega.{arith}
+use lib.IntN.{ℤ, pos}
+use lib.ListN.{set, drop}
+use mir.Facts.{toZ-ofZ}
+use Rattle.ints.proofs.Round.{add-fits, add-is}
+use Rattle.window.specs.Standing.{evicted}
+use Rattle.deque.specs.declared.sums.Sums.{Sums}
+use Rattle.deque.specs.Rings.{capacity, newest}
+use Rattle.deque.specs.Sums.{partialsOf, FitsSums, InBounds}
+use Rattle.deque.proofs.Rings.{ringOf}
+use Rattle.deque.proofs.Laps.{Turned, onward, anew, Pushed, onRing, lap-fits, previous-fits, more-fits, closed-all}
+use Rattle.deque.proofs.sums.Sums.close.Statement.{statement}
+use Rattle.deque.proofs.sums.Sums.close.Tie as tie
+use Rattle.deque.proofs.sums.Sums.close.Reads as reads
+use Rattle.deque.proofs.sums.Sums.close.Lts as lts
+use Rattle.deque.proofs.ring.Ring.evict.Reads as evict-reads
+use Rattle.deque.proofs.ring.Ring.place.Reads as place-reads
+use Rattle.deque.proofs.ring.Ring.with_room.Reads as with-room-reads
+
+evict-requires : tie.Need-evict-requires
+evict-requires c κs = search needs
+
+with-room-requires : tie.Need-with-room-requires
+with-room-requires c κs = search needs
+
+place-requires : tie.Need-place-requires
+place-requires c κs = search needs
+
+mul-starts : tie.Need-mul-starts
+mul-starts c = search needs
+
+slice-write-starts : tie.Need-slice-write-starts
+slice-write-starts c = search needs
+
+add-len : tie.Need-add-len
+add-len c = search needs
+
+mul-sums : tie.Need-mul-sums
+mul-sums c = search needs
+
+slice-set-of-sums : tie.Need-slice-set-of-sums
+slice-set-of-sums c = search needs
+
+same-length : tie.Need-same-length
+same-length c = search needs
+
+same-length-2 : tie.Need-same-length-2
+same-length-2 c = search needs
+
+-- the start, from the place of the new entry
+abbrev start : tie.After-place → tie.Start
+start c = c .before .before .before .before .before .before
+
+-- the state after, with its lap and the lap before
+abbrev after : tie.After-place → ℤ → ℤ → Sums
+after c lap previous = record { ring = ringOf (c .before .with-room .result .head) (c .before .with-room .result .len + 1); lap = lap; previous = previous }
+
+-- a push that turns the laps rightly is all that is asked
+closed : (c : tie.After-place) (v lap previous : ℤ) → Turned (onRing (c .before .with-room .result) (start c .args .self)) (after c lap previous) (c .place .result) v (start c .args .sum)
+    → FitsSums (after c lap previous)
+    × ((partialsOf (set (start c .args .starts .now) (c .place .result) (start c .args .start)) (set (start c .args .sums .now) (c .place .result) v) (after c lap previous)
+    ≡ newest capacity (evicted (start c .args .horizon) (partialsOf (start c .args .starts .now) (start c .args .sums .now) (start c .args .self)) ++ (record { start = start c .args .start; value = start c .args .sum } ∷ [])))
+    × ((InBounds (start c .args .sums .now) (start c .args .self) → InBounds (set (start c .args .sums .now) (c .place .result) v) (after c lap previous))
+    × ((drop capacity (set (start c .args .starts .now) (c .place .result) (start c .args .start)) ≡ drop capacity (start c .args .starts .now))
+    × (drop capacity (set (start c .args .sums .now) (c .place .result) v) ≡ drop capacity (start c .args .sums .now)))))
+closed c v lap previous t =
+    let s = start c in
+    let a = s .args in
+    closed-all (a .starts .now) (a .self) (a .horizon) (c .before .before .evict .result) (c .before .with-room .result) (c .before .before .evict .ensures .1) (c .before .with-room .ensures .1)
+    (s .pre .0) (s .pre .3) pushed (set (a .starts .now) (c .place .result) (a .start)) (a .start) (omega arith) refl
+  where
+    pushed : Pushed (start c .args .sums .now) (set (start c .args .sums .now) (c .place .result) v) (onRing (c .before .with-room .result) (start c .args .self)) (after c lap previous) (c .place .result) v (start c .args .sum)
+    pushed = record { inside = omega arith; room = omega arith; long = omega arith; next = c .place .ensures; stored = refl; head = refl; len = refl; turned = t }
+
+returns : tie.Need-returns
+returns c =
+    let p = c .before .before .before in
+    let s = start p in
+    closed p (pos 0) _ _ (anew (c .if1 .taken) refl (toZ-ofZ (s .fits .sum)) (toZ-ofZ (lap-fits (s .args .self) (s .pre .0))))
+
+mul-lap : tie.Need-mul-lap
+mul-lap c = search needs
+
+slice-set-from-lap : tie.Need-slice-set-from-lap
+slice-set-from-lap c = search needs
+
+add-longer : tie.Need-add-longer
+add-longer c =
+    let s = start (c .before .before .before) in
+    add-fits (toZ-ofZ (lap-fits (s .args .self) (s .pre .0))) (toZ-ofZ (s .fits .sum)) (more-fits (s .args .self) (s .pre .0) (s .args .sum) (s .pre .3))
+
+same-length-3 : tie.Need-same-length-3
+same-length-3 c = search needs
+
+same-length-4 : tie.Need-same-length-4
+same-length-4 c = search needs
+
+returns-2 : tie.Need-returns-2
+returns-2 c =
+    let p = c .before .before .before .before in
+    let s = start p in
+    let l = toZ-ofZ (lap-fits (s .args .self) (s .pre .0)) in
+    closed p _ _ _ (onward (c .before .if1 .left) l (add-is l (toZ-ofZ (s .fits .sum)) (more-fits (s .args .self) (s .pre .0) (s .args .sum) (s .pre .3))) (toZ-ofZ (previous-fits (s .args .self) (s .pre .0))))
+
+pub close-spec : {M : Type 1} → statement M
+close-spec =
+    tie.close
+    (tie.spec
+    evict-requires
+    with-room-requires
+    place-requires
+    mul-starts
+    slice-write-starts
+    add-len
+    mul-sums
+    slice-set-of-sums
+    same-length
+    same-length-2
+    returns
+    mul-lap
+    slice-set-from-lap
+    add-longer
+    same-length-3
+    same-length-4
+    returns-2)

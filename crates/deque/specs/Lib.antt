@@ -1,0 +1,4 @@
+pub mod Rings
+pub mod Extremes
+pub mod Sums
+pub mod Retained

@@ -1,0 +1,86 @@
+// A monotonic deque: the standing partials of one order (document 01, "Where partials are cut"), on a table of starts and one of values.
+use crate::compare::Extreme;
+use crate::compare::compare;
+use crate::ring::Ring;
+use window::query::Count;
+ghost use mathlib.Core.Path.{_≡_};
+ghost use Prim.Native.Nat.{_+_, _<_, _≤_, _^_};
+ghost use lib.IntN.{pos};
+ghost use lib.ListN.{length, drop};
+ghost use Rattle.window.specs.Standing.{evicted, frontOf};
+ghost use Rattle.window.specs.Invariant.{Sorted};
+ghost use Rattle.deque.specs.Rings.{capacity, Fits};
+ghost use Rattle.deque.specs.Extremes.{orderOf, entriesOf, closedWith, closingCost};
+
+// The ring of the entries, and the total of the comparisons made (document 01: M or N).
+pub struct Deque {
+    pub ring: Ring,
+    pub comparisons: u64,
+}
+
+impl Deque {
+    // The closing step: the partial that starts at `start` closes with `value`.
+    pub fn close(
+        self,
+        extreme: Extreme,
+        starts: &mut [Count],
+        values: &mut [i32],
+        horizon: Count,
+        start: Count,
+        value: i32,
+    ) -> Deque
+        requires { ⌜ Fits (self .ring) × (capacity ≤ length (now starts)) × (capacity ≤ length (now values)) × (self .comparisons + capacity < 2 ^ 64) ⌝ }
+        ensures fits { λ r. ⌜ Fits (r .ring) ⌝ }
+        ensures entries { λ r. ⌜ entriesOf (now (starts .exit)) (now (values .exit)) (r .ring) ≡ closedWith (orderOf extreme) (record { start = start; value = value }) horizon (entriesOf (now (starts .entry)) (now (values .entry)) (self .ring)) ⌝ }
+        ensures cost { λ r. ⌜ r .comparisons ≡ self .comparisons + closingCost (orderOf extreme) (record { start = start; value = value }) horizon (entriesOf (now (starts .entry)) (now (values .entry)) (self .ring)) ⌝ }
+        ensures beyond { λ r. ⌜ (drop capacity (now (starts .exit)) ≡ drop capacity (now (starts .entry))) × (drop capacity (now (values .exit)) ≡ drop capacity (now (values .entry))) ⌝ }
+    {
+        let ring = self.ring;
+        let kept = ring.evict(starts, horizon);
+        let mut len = kept.len;
+        let mut total = self.comparisons;
+        let left = loop {
+            if len == 0 {
+                break 0;
+            }
+            let last = kept.place(len - 1);
+            let compared = compare(extreme, values[last], value, total);
+            total = compared.total;
+            if !compared.verdict {
+                break len;
+            }
+            len -= 1;
+        };
+        let trimmed = Ring {
+            head: kept.head,
+            len: left,
+        };
+        let room = trimmed.with_room();
+        let p = room.place(room.len);
+        starts[p] = start;
+        values[p] = value;
+        let len = room.len + 1;
+        let ring = Ring {
+            head: room.head,
+            len,
+        };
+        Deque {
+            ring,
+            comparisons: total,
+        }
+    }
+
+    // The value of the first entry that starts at `from` or later: the extreme of the readings since then. 0 where there is none.
+    pub fn extreme_from(self, starts: &[Count], values: &[i32], from: Count) -> i32
+        requires { ⌜ Fits (self .ring) × (capacity ≤ length (now starts)) × (capacity ≤ length (now values)) ⌝ }
+        ensures { λ r. ⌜ (Sorted (entriesOf (now (starts .entry)) (now (values .entry)) (self .ring)) → r ≡ frontOf (pos 0) (evicted from (entriesOf (now (starts .entry)) (now (values .entry)) (self .ring)))) ⌝ }
+    {
+        let ring = self.ring;
+        let first = ring.search(starts, from);
+        if first < ring.len {
+            let p = ring.place(first);
+            return values[p];
+        }
+        0
+    }
+}

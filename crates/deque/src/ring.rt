@@ -1,0 +1,99 @@
+// A ring over the first 4,096 places of lent tables: where its entries stand, evicting the oldest, and searching by start.
+use window::query::Count;
+ghost use mathlib.Core.Path.{_≡_};
+ghost use mathlib.Core.Bool.{true};
+ghost use Prim.Native.Nat.{_-_, _<_, _≤_};
+ghost use lib.ListN.{length};
+ghost use Rattle.deque.specs.Rings.{capacity, place, Fits, startsOf, advanced, countBefore, NeverFalls};
+
+// How many places of each table are used.
+pub const CAPACITY: usize = 4_096;
+
+// The entries of a ring: `len` of them, the oldest at place `head`.
+pub struct Ring {
+    pub head: usize,
+    pub len: usize,
+}
+
+// The place after p.
+pub fn next_place(p: usize) -> usize
+    requires { ⌜ p < capacity ⌝ }
+    ensures { λ r. ⌜ r ≡ place p 1 ⌝ }
+{
+    if p == CAPACITY - 1 { 0 } else { p + 1 }
+}
+
+impl Ring {
+    // Whether a ring that was handed in can be used.
+    pub fn fits(self) -> bool
+        ensures { λ r. ⌜ (r ≡ true → Fits self) × (Fits self → r ≡ true) ⌝ }
+    {
+        if self.head < CAPACITY {
+            return self.len <= CAPACITY;
+        }
+        false
+    }
+
+    // The place of entry j.
+    pub fn place(self, j: usize) -> usize
+        requires { ⌜ Fits self × (j ≤ capacity) ⌝ }
+        ensures { λ r. ⌜ r ≡ place (self .head) j ⌝ }
+    {
+        (self.head + j) % CAPACITY
+    }
+
+    // Without the oldest entries that start before the horizon.
+    pub fn evict(self, starts: &[Count], horizon: Count) -> Ring
+        requires { ⌜ Fits self × (capacity ≤ length (now starts)) ⌝ }
+        ensures fits { λ r. ⌜ Fits r × (r .len ≤ self .len) ⌝ }
+        ensures evicted { λ r. ⌜ r ≡ advanced (countBefore horizon (startsOf (now (starts .entry)) self)) self ⌝ }
+    {
+        let mut head = self.head;
+        let mut len = self.len;
+        while 0 < len {
+            if horizon <= starts[head] {
+                return Ring { head, len };
+            }
+            head = next_place(head);
+            len -= 1;
+        }
+        Ring { head, len }
+    }
+
+    // With room for one entry more: a full ring drops its oldest. On tables that came from a start it is never full.
+    pub fn with_room(self) -> Ring
+        requires { ⌜ Fits self ⌝ }
+        ensures fits { λ r. ⌜ Fits r × (r .len < capacity) ⌝ }
+        ensures room { λ r. ⌜ r ≡ advanced (self .len - 4095) self ⌝ }
+    {
+        let head = self.head;
+        let len = self.len;
+        if len < CAPACITY {
+            return Ring { head, len };
+        }
+        Ring {
+            head: next_place(head),
+            len: len - 1,
+        }
+    }
+
+    // How many entries come before the first that starts at `from` or later, by binary search.
+    pub fn search(self, starts: &[Count], from: Count) -> usize
+        requires { ⌜ Fits self × (capacity ≤ length (now starts)) ⌝ }
+        ensures within { λ r. ⌜ r ≤ self .len ⌝ }
+        ensures found { λ r. ⌜ (NeverFalls (startsOf (now (starts .entry)) self) → r ≡ countBefore from (startsOf (now (starts .entry)) self)) ⌝ }
+    {
+        let mut low = 0;
+        let mut high = self.len;
+        while low < high {
+            let middle = low + (high - low) / 2;
+            let p = self.place(middle);
+            if starts[p] < from {
+                low = middle + 1;
+            } else {
+                high = middle;
+            }
+        }
+        low
+    }
+}

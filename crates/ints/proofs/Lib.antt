@@ -1,0 +1,3 @@
+pub mod Balance
+pub mod Round
+pub mod Sizes
