@@ -1,25 +1,23 @@
--- The laws of the closing step of a monotonic deque, as its code goes: a turn of the loop over the tail, its two ends, and the view that is left.
+-- The laws of the closing step of a monotonic deque and of its first entry from a place on, as the code goes. They hold of entries of any type with a
+-- start: `content` gives the entry at a place of the tables.
 -- Assumes nothing.
 use Prim.Native.Nat.{ℕ, _+_, _-_, _<_, _≤_, min}
 use mathlib.Core.Path.{_≡_, refl, sym, ap, ap₂, _∙_, subst}
 use mathlib.Core.Bool.{Bool, true, false}
 use mathlib.Core.List.{List, [], _∷_, _++_, map}
 use native.Mathlib.Omega.{arith}
-use lib.IntN.{ℤ, pos}
-use lib.ListN.{length, getD, set, drop}
+use lib.IntN.{ℤ}
+use lib.ListN.{length, set, drop}
 use Rattle.window.specs.Partials.{Entry}
 use Rattle.window.specs.Standing.{atMost, oneIfAny, frontOf, evicted}
 use Rattle.window.specs.Invariant.{Sorted}
 use Rattle.deque.specs.declared.ring.Ring.{Ring}
-use Rattle.deque.specs.Rings.{capacity, place, Fits, listed, view, startAt, startsOf, advanced, countBefore, NeverFalls, newest}
-use Rattle.deque.specs.Extremes.{entryAt, entriesOf, trimmed, trimComparisons, closedWith, closingCost}
-use Rattle.deque.proofs.Listed.{listed-front, listed-back, length-listed, listed-drop, listed-map}
-use Rattle.deque.proofs.Rings.{ringOf, view-advanced, evicted-count, sorted-starts, view-pushed, store-other, store-same, newest-more}
+use Rattle.deque.specs.Rings.{capacity, place, listed, view, startAt, startsOf, advanced, withRoom, grown, countBefore, NeverFalls}
+use Rattle.deque.specs.Extremes.{entryAt, entriesOf, trimmed, closedWith, closingCost}
+use Rattle.deque.proofs.Listed.{listed-cong, listed-front, listed-back, length-listed, listed-drop, listed-map}
+use Rattle.deque.proofs.Rings.{ringOf, view-advanced, evicted-count, sorted-starts, view-pushed, newest-more}
+use Rattle.deque.proofs.Stores.{entry-other, entry-same}
 use Rattle.deque.proofs.Trimming.{trimmed-snoc-drop, trimmed-snoc-keep}
-
--- the entry that closes
-abbrev pub newEntry : ℕ → ℤ → Entry ℤ
-newEntry s v = record { start = s; value = v }
 
 -- ---- the loop over the tail
 
@@ -41,85 +39,99 @@ oneIfAny-length : {A : Type 0} (xs : List A) → oneIfAny xs ≡ min 1 (length x
 oneIfAny-length [] = refl
 oneIfAny-length (x ∷ xs) = omega arith
 
--- ---- the view after evicting
+-- ---- a view, by its starts
 
--- the entries that a ring holds once those before the horizon are evicted
-pub evicted-view : (starts : List ℕ) (values : List ℤ) (hz : ℕ) (r : Ring)
-    → entriesOf starts values (advanced (countBefore hz (startsOf starts r)) r) ≡ evicted hz (entriesOf starts values r)
-evicted-view starts values hz r =
-    view-advanced (entryAt starts values) (countBefore hz (startsOf starts r)) r
-    ∙ ap (λ (ss : List ℕ). drop (countBefore hz ss) (entriesOf starts values r)) (sym (listed-map (λ (e : Entry ℤ). e .start) (r .len) (λ j. entryAt starts values (place (r .head) j))))
-    ∙ evicted-count hz (entriesOf starts values r)
+module _ {A : Type 0} (content : ℕ → Entry A) (starts : List ℕ) (same : (p : ℕ) → content p .start ≡ startAt starts p) (r : Ring) where
+  view-starts : map (λ (e : Entry A). e .start) (view content r) ≡ startsOf starts r
+  view-starts =
+      listed-map (λ (e : Entry A). e .start) (r .len) (λ j. content (place (r .head) j))
+      ∙ listed-cong (r .len) (λ j. content (place (r .head) j) .start) (λ j. startAt starts (place (r .head) j)) (λ j l. same (place (r .head) j))
 
--- ---- the whole step
+  -- where its entries are sorted, their starts never fall
+  pub sorted-view : Sorted (view content r) → NeverFalls (startsOf starts r)
+  sorted-view s = subst NeverFalls view-starts (sorted-starts (view content r) s)
 
-module _ (below : ℤ → ℤ → Bool) (starts : List ℕ) (values : List ℤ) (r : Ring) (hz s : ℕ) (v : ℤ) (kept : Ring) (left : ℕ) where
-  abbrev new : Entry ℤ
-  new = newEntry s v
+  -- what is left once the entries before h are evicted
+  pub evicted-view : (h : ℕ) → view content (advanced (countBefore h (startsOf starts r)) r) ≡ evicted h (view content r)
+  evicted-view h =
+      view-advanced content (countBefore h (startsOf starts r)) r
+      ∙ ap (λ (ss : List ℕ). drop (countBefore h ss) (view content r)) (sym view-starts)
+      ∙ evicted-count h (view content r)
 
-  module _ (evict : kept ≡ advanced (countBefore hz (startsOf starts r)) r) (trim : entriesOf starts values (ringOf (kept .head) left) ≡ trimmed below new (entriesOf starts values kept)) where
-    left-view : entriesOf starts values (ringOf (kept .head) left) ≡ trimmed below new (evicted hz (entriesOf starts values r))
-    left-view = trim ∙ ap (trimmed below new) (ap (entriesOf starts values) evict ∙ evicted-view starts values hz r)
+  -- ---- the first entry from a place on
 
-    left-length : left ≡ length (trimmed below new (evicted hz (entriesOf starts values r)))
-    left-length = sym (length-listed left (λ j. entryAt starts values (place (kept .head) j))) ∙ ap length left-view
+  module _ (from first : ℕ) (found : first ≡ countBefore from (startsOf starts r)) (none : A) where
+    found-view : evicted from (view content r) ≡ listed (r .len - first) (λ j. content (place (r .head) (first + j)))
+    found-view =
+        sym (evicted-view from)
+        ∙ view-advanced content (countBefore from (startsOf starts r)) r
+        ∙ ap (λ (k : ℕ). drop k (view content r)) (sym found)
+        ∙ listed-drop first (r .len) (λ j. content (place (r .head) j))
 
-    kept-length : kept .len ≡ length (evicted hz (entriesOf starts values r))
-    kept-length = sym (length-listed (kept .len) (λ j. entryAt starts values (place (kept .head) j))) ∙ ap length (ap (entriesOf starts values) evict ∙ evicted-view starts values hz r)
+    -- there is one: its value
+    pub front-found : first < r .len → content (place (r .head) first) .value ≡ frontOf none (evicted from (view content r))
+    front-found l =
+        ap (λ (k : ℕ). content (place (r .head) k) .value) whole
+        ∙ sym (ap (frontOf none) (found-view ∙ listed-front (r .len - first) (λ j. content (place (r .head) (first + j))) (omega arith)))
+      where
+        whole : first ≡ first + 0
+        whole = omega arith
+
+    -- there is none
+    pub front-missing : r .len ≤ first → none ≡ frontOf none (evicted from (view content r))
+    unfolding listed
+    front-missing l = sym (ap (frontOf none) (found-view ∙ ap (λ (n : ℕ). listed n (λ j. content (place (r .head) (first + j)))) empty))
+      where
+        empty : r .len - first ≡ 0
+        empty = omega arith
+
+  -- ---- the closing of y. `kept` is what eviction leaves, and of it the loop leaves the first `left`
+
+  module _ (below : A → A → Bool) (y : Entry A) (h : ℕ) (kept : Ring) (left : ℕ) (evict : kept ≡ advanced (countBefore h (startsOf starts r)) r)
+      (trim : view content (ringOf (kept .head) left) ≡ trimmed below y (view content kept)) where
+    kept-view : view content kept ≡ evicted h (view content r)
+    kept-view = ap (view content) evict ∙ evicted-view h
+
+    left-view : view content (ringOf (kept .head) left) ≡ trimmed below y (evicted h (view content r))
+    left-view = trim ∙ ap (trimmed below y) kept-view
+
+    kept-length : kept .len ≡ length (evicted h (view content r))
+    kept-length = sym (length-listed (kept .len) (λ j. content (place (kept .head) j))) ∙ ap length kept-view
+
+    left-length : left ≡ length (trimmed below y (evicted h (view content r)))
+    left-length = sym (length-listed left (λ j. content (place (kept .head) j))) ∙ ap length left-view
 
     -- what the comparisons come to
-    pub cost-is : (total before : ℕ) → total ≡ before + ((kept .len - left) + min 1 left) → total ≡ before + closingCost below new hz (entriesOf starts values r)
-    cost-is total before e = rw (oneIfAny-length (trimmed below new (evicted hz (entriesOf starts values r))), ← left-length, ← kept-length) e
+    pub cost-is : (total before : ℕ) → total ≡ before + ((kept .len - left) + min 1 left) → total ≡ before + closingCost below y h (view content r)
+    cost-is total before e = rw (oneIfAny-length (trimmed below y (evicted h (view content r))), ← left-length, ← kept-length) e
 
-    -- the view with the new entry behind what is left
-    pub closed-view : (room : Ring) (p : ℕ) (v₁ : ℤ) → left ≤ capacity → capacity ≤ length starts → capacity ≤ length values
-        → room ≡ advanced (left - 4095) (ringOf (kept .head) left) → p ≡ place (room .head) (room .len) → v₁ ≡ v
-        → entriesOf (set starts p s) (set values p v₁) (ringOf (room .head) (room .len + 1)) ≡ closedWith below new hz (entriesOf starts values r)
-    closed-view room p v₁ l ls lv er ep ev =
-        rw (ep, ev) (view-pushed (entryAt starts values) (entryAt (set starts q s) (set values q v)) new (room .head) (room .len) others here)
-        ∙ ap (λ (es : List (Entry ℤ)). es ++ (new ∷ [])) (ap (entriesOf starts values) er ∙ view-advanced (entryAt starts values) (left - 4095) (ringOf (kept .head) left) ∙ ap₂ drop (ap (λ (k : ℕ). k - 4095) left-length) left-view)
-        ∙ sym (newest-more (trimmed below new (evicted hz (entriesOf starts values r))) new)
-      where
-        q : ℕ
-        q = place (room .head) (room .len)
+    -- the view with y behind what is left; `after` gives the entries once y is stored
+    pub closed-view : (after : ℕ → Entry A) (room : Ring) → room ≡ withRoom (ringOf (kept .head) left)
+        → ((j : ℕ) → j < room .len → after (place (room .head) j) ≡ content (place (room .head) j)) → after (place (room .head) (room .len)) ≡ y
+        → view after (grown room) ≡ closedWith below y h (view content r)
+    closed-view after room e others new =
+        view-pushed content after y (room .head) (room .len) others new
+        ∙ ap (λ (es : List (Entry A)). es ++ (y ∷ []))
+        (ap (view content) e ∙ view-advanced content (left - 4095) (ringOf (kept .head) left) ∙ ap₂ drop (ap (λ (k : ℕ). k - 4095) left-length) left-view)
+        ∙ sym (newest-more (trimmed below y (evicted h (view content r))) y)
 
-        few : room .len < capacity
-        few = omega (arith, ap (λ (x : Ring). x .len) er)
+-- ---- on tables of starts and values
 
-        others : (j : ℕ) → j < room .len → entryAt (set starts q s) (set values q v) (place (room .head) j) ≡ entryAt starts values (place (room .head) j)
-        others j h = rw (store-other starts (room .head) (room .len) s 0 few j h, store-other values (room .head) (room .len) v (pos 0) few j h)
+-- the entry of a partial that closes
+abbrev pub newEntry : ℕ → ℤ → Entry ℤ
+newEntry s v = record { start = s; value = v }
 
-        here : entryAt (set starts q s) (set values q v) q ≡ new
-        here = rw (store-same starts (room .head) (room .len) s 0 ls, store-same values (room .head) (room .len) v (pos 0) lv)
-
--- ---- the first entry from a place on
-
--- where the entries of a ring are sorted, their starts never fall
-pub view-starts : (starts : List ℕ) (values : List ℤ) (r : Ring) → Sorted (entriesOf starts values r) → NeverFalls (startsOf starts r)
-view-starts starts values r s =
-    subst NeverFalls (listed-map (λ (e : Entry ℤ). e .start) (r .len) (λ j. entryAt starts values (place (r .head) j))) (sorted-starts (entriesOf starts values r) s)
-
-module _ (starts : List ℕ) (values : List ℤ) (r : Ring) (from first : ℕ) (found : first ≡ countBefore from (startsOf starts r)) where
-  found-view : evicted from (entriesOf starts values r) ≡ listed (r .len - first) (λ j. entryAt starts values (place (r .head) (first + j)))
-  found-view =
-      sym (evicted-view starts values from r)
-      ∙ view-advanced (entryAt starts values) (countBefore from (startsOf starts r)) r
-      ∙ ap (λ (k : ℕ). drop k (entriesOf starts values r)) (sym found)
-      ∙ listed-drop first (r .len) (λ j. entryAt starts values (place (r .head) j))
-
-  -- there is one: its value
-  pub front-found : first < r .len → getD values (place (r .head) first) (pos 0) ≡ frontOf (pos 0) (evicted from (entriesOf starts values r))
-  front-found l =
-      ap (λ (k : ℕ). getD values (place (r .head) k) (pos 0)) same
-      ∙ sym (ap (frontOf (pos 0)) (found-view ∙ listed-front (r .len - first) (λ j. entryAt starts values (place (r .head) (first + j))) (omega arith)))
+module _ (below : ℤ → ℤ → Bool) (starts : List ℕ) (values : List ℤ) (r : Ring) (h s : ℕ) (v : ℤ) (kept : Ring) (left : ℕ) (few : left ≤ capacity)
+    (evict : kept ≡ advanced (countBefore h (startsOf starts r)) r) (trim : entriesOf starts values (ringOf (kept .head) left) ≡ trimmed below (newEntry s v) (entriesOf starts values kept)) where
+  -- the view after the closing: the new entry is stored at place q
+  pub closed-tables : (ring₁ : Ring) (starts₁ : List ℕ) (q : ℕ) (v₁ : ℤ) → capacity ≤ length starts → capacity ≤ length values
+      → ring₁ ≡ grown (withRoom (ringOf (kept .head) left)) → q ≡ place (withRoom (ringOf (kept .head) left) .head) (withRoom (ringOf (kept .head) left) .len)
+      → starts₁ ≡ set starts q s → v₁ ≡ v
+      → entriesOf starts₁ (set values q v₁) ring₁ ≡ closedWith below (newEntry s v) h (entriesOf starts values r)
+  closed-tables ring₁ starts₁ q v₁ long wide er eq es ev =
+      rw (er, es, ev)
+      (closed-view (entryAt starts values) starts (λ p. refl) r below (newEntry s v) h kept left evict trim (entryAt (set starts q s) (set values q v)) room refl
+      (entry-other q (room .head) (room .len) eq starts values s v (omega arith)) (entry-same q (room .head) (room .len) eq starts values s v long wide))
     where
-      same : first ≡ first + 0
-      same = omega arith
-
-  -- there is none
-  pub front-missing : r .len ≤ first → pos 0 ≡ frontOf (pos 0) (evicted from (entriesOf starts values r))
-  unfolding listed
-  front-missing l = sym (ap (frontOf (pos 0)) (found-view ∙ ap (λ (n : ℕ). listed n (λ j. entryAt starts values (place (r .head) (first + j)))) none))
-    where
-      none : r .len - first ≡ 0
-      none = omega arith
+      room : Ring
+      room = withRoom (ringOf (kept .head) left)

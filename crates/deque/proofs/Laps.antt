@@ -9,7 +9,6 @@ use borrow.Author.Tests.{lt-ltb, le-ltb}
 use lib.Dec.{ltb}
 use lib.IntN.{ℤ, pos, _+ℤ_, _-ℤ_, +ℤ-idl, +ℤ-idr}
 use lib.ListN.{length, getD, set, drop}
-use lib.Seq.{getD-set-same, getD-set-other}
 use mir.Syntax.{w64}
 use mir.Val.{SFits}
 use Rattle.ints.specs.Sizes.{up, dn, Small}
@@ -22,10 +21,11 @@ use Rattle.window.specs.Invariant.{Sorted}
 use Rattle.window.proofs.Lists.{le-cases}
 use Rattle.deque.specs.declared.ring.Ring.{Ring}
 use Rattle.deque.specs.declared.sums.Sums.{Sums}
-use Rattle.deque.specs.Rings.{capacity, place, Fits, listed, startAt, startsOf, advanced, countBefore, NeverFalls, newest}
+use Rattle.deque.specs.Rings.{capacity, place, Fits, listed, startAt, startsOf, advanced, withRoom, countBefore, NeverFalls, newest}
 use Rattle.deque.specs.Sums.{sumAt, newestPlace, lapBehind, sumFromPlace, sumFrom, partialAt, partialsOf, sumLimit, lapLimit, FitsSums, InBounds}
 use Rattle.deque.proofs.Listed.{listed-cong, length-listed, listed-drop, listed-more, listed-map}
-use Rattle.deque.proofs.Rings.{count-le, evicted-count, sorted-starts, store-beyond, newest-more}
+use Rattle.deque.proofs.Rings.{count-le, evicted-count, sorted-starts, newest-more}
+use Rattle.deque.proofs.Stores.{store-other, store-same, store-beyond}
 
 -- ---- numbers
 
@@ -186,11 +186,11 @@ module _ (h n j : ℕ) (inside : h < capacity) (room : n < capacity) (l : j < n)
 module _ {sums sums₁ : List ℤ} {s s₁ : Sums} {q : ℕ} {v x : ℤ} (c : Pushed sums sums₁ s s₁ q v x) where
   -- after a store at the new place the other entries have what they had
   kept : {A : Type 0} (l l₁ : List A) (a d : A) → l₁ ≡ set l q a → (j : ℕ) → j < s .ring .len → getD l₁ (place (s₁ .ring .head) j) d ≡ getD l (place (s .ring .head) j) d
-  kept l l₁ a d e j m = rw e (getD-set-other l q (place (s₁ .ring .head) j) a d (λ f. omega arith) ∙ ap (λ p. getD l p d) (omega arith))
+  kept l l₁ a d e j m = rw (e, c .head) (store-other q (s .ring .head) (s .ring .len) (c .next) l a d (c .room) j m)
 
   -- and the new one has what was stored
   put : {A : Type 0} (l l₁ : List A) (a d : A) → l₁ ≡ set l q a → capacity ≤ length l → getD l₁ (place (s₁ .ring .head) (s .ring .len)) d ≡ a
-  put l l₁ a d e m = rw e (ap (λ p. getD (set l q a) p d) (omega arith) ∙ getD-set-same l q a d (omega arith))
+  put l l₁ a d e m = rw (e, c .head) (store-same q (s .ring .head) (s .ring .len) (c .next) l a d m)
 
   -- the newest entry is the new one
   newest-after : newestPlace s₁ ≡ place (s .ring .head) (s .ring .len)
@@ -329,7 +329,7 @@ partials-rising starts sums s p = subst NeverFalls (partials-starts starts sums 
 
 -- `kept` is the ring after eviction, and `room` that with room for one more
 module _ (starts : List ℕ) (s : Sums) (h : ℕ) (kept room : Ring) (evict : kept ≡ advanced (countBefore h (startsOf starts (s .ring))) (s .ring))
-    (spare : room ≡ advanced (kept .len - 4095) kept) where
+    (spare : room ≡ withRoom kept) where
   count-within : countBefore h (startsOf starts (s .ring)) ≤ s .ring .len
   count-within = omega (arith, count-le h (startsOf starts (s .ring)), length-listed (s .ring .len) (λ j. startAt starts (place (s .ring .head) j)))
 
@@ -373,7 +373,7 @@ module _ (starts : List ℕ) (s : Sums) (h : ℕ) (kept room : Ring) (evict : ke
       closed-partials c starts₁ start long e,
       (
         (λ b. pushed-bounds c (ready-fits f) (ready-bounds sums b)),
-        (rw e (store-beyond starts q (room .head) (room .len) start (c .next)), rw (c .stored) (store-beyond sums q (room .head) (room .len) v (c .next))),
+        (rw e (store-beyond q (room .head) (room .len) (c .next) starts start), rw (c .stored) (store-beyond q (room .head) (room .len) (c .next) sums v)),
       ),
     ),
   )

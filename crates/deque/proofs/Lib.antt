@@ -1,5 +1,6 @@
 pub mod Listed
 pub mod Rings
+pub mod Stores
 pub mod Trimming
 pub mod Closing
 pub mod Laps

@@ -5,15 +5,15 @@ use mathlib.Core.Path.{_≡_, refl, sym, ap, ap₂, _∙_}
 use mathlib.Core.Bool.{Bool, true, false, cond}
 use mathlib.Core.List.{List, [], _∷_, _++_, map}
 use native.Mathlib.Omega.{arith}
-use lib.ListN.{length, getD, set, drop, length-append}
-use lib.Seq.{getD-set-same, getD-set-other, drop-set-lt, drop-append-le}
+use lib.ListN.{length, drop, length-append}
+use lib.Seq.{drop-append-le}
 use borrow.Author.Tests.{leb-true, leb-false, le-leb, lt-leb}
 use Rattle.window.specs.Lists.{Each}
 use Rattle.window.specs.Partials.{Entry, live}
 use Rattle.window.specs.Standing.{evicted}
 use Rattle.window.specs.Invariant.{Sorted}
 use Rattle.deque.specs.declared.ring.Ring.{Ring}
-use Rattle.deque.specs.Rings.{capacity, place, Fits, listed, view, startAt, startsOf, advanced, countBefore, NeverFalls, newest}
+use Rattle.deque.specs.Rings.{capacity, place, Fits, listed, view, startAt, startsOf, advanced, withRoom, grown, countBefore, NeverFalls, newest}
 use Rattle.deque.proofs.Listed.{listed-cong, length-listed, listed-front, listed-more, listed-drop, listed-map}
 
 -- the ring that starts at place h and has n entries
@@ -94,7 +94,7 @@ evict-none starts hz h (suc n) hh l = absurd (omega arith)
 -- ---- room for one more
 
 -- a ring that is not full stays as it is
-pub room-spare : (h n : ℕ) → h < capacity → n < capacity → ringOf h n ≡ advanced (n - 4095) (ringOf h n)
+pub room-spare : (h n : ℕ) → h < capacity → n < capacity → ringOf h n ≡ withRoom (ringOf h n)
 room-spare h n hh hn = ap₂ ringOf at-head whole
   where
     at-head : h ≡ (h + (n - 4095)) % 4096
@@ -104,7 +104,7 @@ room-spare h n hh hn = ap₂ ringOf at-head whole
     whole = omega arith
 
 -- a full one loses its oldest
-pub room-full : (h n next : ℕ) → n ≤ capacity → capacity ≤ n → next ≡ place h 1 → ringOf next (n - 1) ≡ advanced (n - 4095) (ringOf h n)
+pub room-full : (h n next : ℕ) → n ≤ capacity → capacity ≤ n → next ≡ place h 1 → ringOf next (n - 1) ≡ withRoom (ringOf h n)
 room-full h n next hn full e = ap₂ ringOf (e ∙ moved) less
   where
     moved : (h + 1) % 4096 ≡ (h + (n - 4095)) % 4096
@@ -167,21 +167,10 @@ sorted-starts {A} (e ∷ es) s = (go es (s .0), sorted-starts es (s .1))
 
 -- the view of a ring with one entry more, where the other entries are as they were
 pub view-pushed : {A : Type 0} (before after : ℕ → A) (e : A) (h n : ℕ) → ((j : ℕ) → j < n → after (place h j) ≡ before (place h j)) → after (place h n) ≡ e
-    → view after (ringOf h (n + 1)) ≡ view before (ringOf h n) ++ (e ∷ [])
+    → view after (grown (ringOf h n)) ≡ view before (ringOf h n) ++ (e ∷ [])
 view-pushed {A} before after e h n same new =
     listed-more n (λ j. after (place h j))
     ∙ ap₂ _++_ (listed-cong n (λ j. after (place h j)) (λ j. before (place h j)) same) (ap (λ (x : A). x ∷ []) new)
-
--- a store at the place of entry n leaves what stands at the places of the others
-pub store-other : {A : Type 0} (t : List A) (h n : ℕ) (a d : A) → n < capacity → (j : ℕ) → j < n → getD (set t (place h n) a) (place h j) d ≡ getD t (place h j) d
-store-other t h n a d hn j l = getD-set-other t (place h n) (place h j) a d (λ e. omega arith)
-
-pub store-same : {A : Type 0} (t : List A) (h n : ℕ) (a d : A) → capacity ≤ length t → getD (set t (place h n) a) (place h n) d ≡ a
-store-same t h n a d l = getD-set-same t (place h n) a d (omega arith)
-
--- and what lies beyond the ring
-pub store-beyond : {A : Type 0} (t : List A) (p h n : ℕ) (a : A) → p ≡ place h n → drop capacity (set t p a) ≡ drop capacity t
-store-beyond t p h n a e = drop-set-lt capacity t p a (omega arith)
 
 -- the newest of a list with one more at the end
 pub newest-more : {A : Type 0} (xs : List A) (y : A) → newest capacity (xs ++ (y ∷ [])) ≡ drop (length xs - 4095) xs ++ (y ∷ [])

@@ -44,6 +44,14 @@ startsOf starts r = view (startAt starts) r
 abbrev pub advanced : ℕ → Ring → Ring
 advanced k r = record { head = place (r .head) k; len = r .len - k }
 
+-- the ring with room for one entry more: a full one loses its oldest
+abbrev pub withRoom : Ring → Ring
+withRoom r = advanced (r .len - 4095) r
+
+-- the ring with one entry more, behind the newest
+abbrev pub grown : Ring → Ring
+grown r = record { head = r .head; len = r .len + 1 }
+
 -- how many starts stand before the first that is at h or later; all of them where none is
 unfoldable pub countBefore : ℕ → List ℕ → ℕ
 countBefore h [] = 0

@@ -11,13 +11,13 @@ pub enum Extreme {
 }
 
 // What a comparison found, and the total with this comparison counted.
-pub struct Compared {
+pub(crate) struct Compared {
     pub verdict: bool,
     pub total: u64,
 }
 
 // Whether the value of an older partial is at most that of a newer one: at most it for maxima, at least it for minima.
-pub fn compare(extreme: Extreme, older: i32, newer: i32, total: u64) -> Compared
+pub(crate) fn compare(extreme: Extreme, older: i32, newer: i32, total: u64) -> Compared
     requires { ⌜ total + 1 < 2 ^ 64 ⌝ }
     ensures { λ r. ⌜ (r .verdict ≡ orderOf extreme older newer) × (r .total ≡ total + 1) ⌝ }
 {

@@ -55,15 +55,10 @@ impl Deque {
             head: kept.head,
             len: left,
         };
-        let room = trimmed.with_room();
-        let p = room.place(room.len);
-        starts[p] = start;
+        let pushed = trimmed.push(starts, start);
+        let p = pushed.place;
         values[p] = value;
-        let len = room.len + 1;
-        let ring = Ring {
-            head: room.head,
-            len,
-        };
+        let ring = pushed.ring;
         Deque {
             ring,
             comparisons: total,

@@ -2,9 +2,9 @@
 use window::query::Count;
 ghost use mathlib.Core.Path.{_≡_};
 ghost use mathlib.Core.Bool.{true};
-ghost use Prim.Native.Nat.{_-_, _<_, _≤_};
-ghost use lib.ListN.{length};
-ghost use Rattle.deque.specs.Rings.{capacity, place, Fits, startsOf, advanced, countBefore, NeverFalls};
+ghost use Prim.Native.Nat.{_<_, _≤_};
+ghost use lib.ListN.{length, set};
+ghost use Rattle.deque.specs.Rings.{capacity, place, Fits, startsOf, advanced, withRoom, grown, countBefore, NeverFalls};
 
 // How many places of each table are used.
 pub const CAPACITY: usize = 4_096;
@@ -15,8 +15,14 @@ pub struct Ring {
     pub len: usize,
 }
 
+// A ring with one entry more, and the place of that entry.
+pub(crate) struct Pushed {
+    pub ring: Ring,
+    pub place: usize,
+}
+
 // The place after p.
-pub fn next_place(p: usize) -> usize
+pub(crate) fn next_place(p: usize) -> usize
     requires { ⌜ p < capacity ⌝ }
     ensures { λ r. ⌜ r ≡ place p 1 ⌝ }
 {
@@ -35,7 +41,7 @@ impl Ring {
     }
 
     // The place of entry j.
-    pub fn place(self, j: usize) -> usize
+    pub(crate) fn place(self, j: usize) -> usize
         requires { ⌜ Fits self × (j ≤ capacity) ⌝ }
         ensures { λ r. ⌜ r ≡ place (self .head) j ⌝ }
     {
@@ -43,7 +49,7 @@ impl Ring {
     }
 
     // Without the oldest entries that start before the horizon.
-    pub fn evict(self, starts: &[Count], horizon: Count) -> Ring
+    pub(crate) fn evict(self, starts: &[Count], horizon: Count) -> Ring
         requires { ⌜ Fits self × (capacity ≤ length (now starts)) ⌝ }
         ensures fits { λ r. ⌜ Fits r × (r .len ≤ self .len) ⌝ }
         ensures evicted { λ r. ⌜ r ≡ advanced (countBefore horizon (startsOf (now (starts .entry)) self)) self ⌝ }
@@ -61,10 +67,10 @@ impl Ring {
     }
 
     // With room for one entry more: a full ring drops its oldest. On tables that came from a start it is never full.
-    pub fn with_room(self) -> Ring
+    fn with_room(self) -> Ring
         requires { ⌜ Fits self ⌝ }
         ensures fits { λ r. ⌜ Fits r × (r .len < capacity) ⌝ }
-        ensures room { λ r. ⌜ r ≡ advanced (self .len - 4095) self ⌝ }
+        ensures room { λ r. ⌜ r ≡ withRoom self ⌝ }
     {
         let head = self.head;
         let len = self.len;
@@ -77,8 +83,26 @@ impl Ring {
         }
     }
 
+    // With one entry more behind the newest, whose start is stored at its place.
+    pub(crate) fn push(self, starts: &mut [Count], start: Count) -> Pushed
+        requires { ⌜ Fits self × (capacity ≤ length (now starts)) ⌝ }
+        ensures fits { λ r. ⌜ Fits (r .ring) × (r .place < capacity) ⌝ }
+        ensures pushed { λ r. ⌜ (r .ring ≡ grown (withRoom self)) × (r .place ≡ place (withRoom self .head) (withRoom self .len)) ⌝ }
+        ensures stored { λ r. ⌜ now (starts .exit) ≡ set (now (starts .entry)) (r .place) start ⌝ }
+    {
+        let room = self.with_room();
+        let place = room.place(room.len);
+        starts[place] = start;
+        let len = room.len + 1;
+        let ring = Ring {
+            head: room.head,
+            len,
+        };
+        Pushed { ring, place }
+    }
+
     // How many entries come before the first that starts at `from` or later, by binary search.
-    pub fn search(self, starts: &[Count], from: Count) -> usize
+    pub(crate) fn search(self, starts: &[Count], from: Count) -> usize
         requires { ⌜ Fits self × (capacity ≤ length (now starts)) ⌝ }
         ensures within { λ r. ⌜ r ≤ self .len ⌝ }
         ensures found { λ r. ⌜ (NeverFalls (startsOf (now (starts .entry)) self) → r ≡ countBefore from (startsOf (now (starts .entry)) self)) ⌝ }

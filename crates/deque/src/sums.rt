@@ -74,14 +74,9 @@ impl Sums {
     {
         let ring = self.ring;
         let kept = ring.evict(starts, horizon);
-        let room = kept.with_room();
-        let p = room.place(room.len);
-        starts[p] = start;
-        let len = room.len + 1;
-        let ring = Ring {
-            head: room.head,
-            len,
-        };
+        let pushed = kept.push(starts, start);
+        let p = pushed.place;
+        let ring = pushed.ring;
         let lap = self.lap;
         if p == 0 {
             sums[p] = 0;

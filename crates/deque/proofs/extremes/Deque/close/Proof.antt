@@ -4,19 +4,19 @@ use mathlib.Core.Bool.{Bool}
 use mathlib.Core.Logic.{⊎-elim}
 use native.Mathlib.Omega.{arith}
 use borrow.Author.Tests.{not-true, not-false}
-use borrow.Author.Needs.{sfits-of}
+use borrow.Author.Needs.{needs, sfits-of}
 use lib.IntN.{ℤ, pos}
-use lib.ListN.{length, getD}
+use lib.ListN.{getD, drop, length-set}
 use mir.Syntax.{w32}
 use mir.Val.{toZ, ofZ}
 use mir.Facts.{toZ-ofZ}
 use Rattle.window.specs.Partials.{Entry}
 use Rattle.window.specs.Standing.{atMost}
-use Rattle.deque.specs.Rings.{place, listed}
+use Rattle.deque.specs.Rings.{capacity, place, listed}
 use Rattle.deque.specs.Extremes.{orderOf, entryAt, entriesOf, trimmed}
-use Rattle.deque.proofs.Rings.{ringOf, advanced-fits, store-beyond}
-use Rattle.deque.proofs.Closing.{newEntry, trim-step, trim-stop, trim-none, cost-is, closed-view}
-use lib.ListN.{length-set}
+use Rattle.deque.proofs.Rings.{ringOf}
+use Rattle.deque.proofs.Stores.{store-beyond}
+use Rattle.deque.proofs.Closing.{newEntry, trim-step, trim-stop, trim-none, cost-is, closed-tables}
 use Rattle.deque.proofs.extremes.Deque.close.Statement.{statement}
 use Rattle.deque.proofs.extremes.Deque.close.Tie as tie
 use Rattle.deque.proofs.extremes.Deque.close.Reads as reads
@@ -24,7 +24,7 @@ use Rattle.deque.proofs.extremes.Deque.close.Lts as lts
 use Rattle.deque.proofs.compare.compare.Reads as compare-reads
 use Rattle.deque.proofs.ring.Ring.evict.Reads as evict-reads
 use Rattle.deque.proofs.ring.Ring.place.Reads as place-reads
-use Rattle.deque.proofs.ring.Ring.with_room.Reads as with-room-reads
+use Rattle.deque.proofs.ring.Ring.push.Reads as push-reads
 
 abbrev Inv-loop : tie.InvT-loop
 Inv-loop extreme starts values horizon start value kept len₀ total₀ len total =
@@ -139,17 +139,8 @@ left-is : (c : tie.Joined1 Inv-loop μ-loop)
 unfolding Fact
 left-is c = joined c .2
 
-with-room-requires : tie.Need-with-room-requires Inv-loop μ-loop
-with-room-requires c κs = omega (arith, left-le c)
-
-place-requires-2 : tie.Need-place-requires-2 Inv-loop μ-loop
-place-requires-2 c κs = omega arith
-
-mul-starts : tie.Need-mul-starts Inv-loop μ-loop
-mul-starts c = omega arith
-
-slice-write-starts : tie.Need-slice-write-starts Inv-loop μ-loop
-slice-write-starts c = omega arith
+push-requires : tie.Need-push-requires Inv-loop μ-loop
+push-requires c κs = omega (arith, left-le (c .before))
 
 mul-value : tie.Need-mul-value Inv-loop μ-loop
 mul-value c = omega arith
@@ -157,33 +148,30 @@ mul-value c = omega arith
 slice-set-from-value : tie.Need-slice-set-from-value Inv-loop μ-loop
 slice-set-from-value c = omega arith
 
-add-len : tie.Need-add-len Inv-loop μ-loop
-add-len c = omega arith
-
 same-length : tie.Need-same-length Inv-loop μ-loop
-same-length c = simp length-set
+same-length c = search needs
 
 same-length-2 : tie.Need-same-length-2 Inv-loop μ-loop
 same-length-2 c = simp length-set
 
 returns : tie.Need-returns Inv-loop μ-loop
 returns c =
-    let j = c .before .before .before in
+    let j = c .before .before .before .before .before in
     let s = start (j .before) in
     let a = s .args in
     let e = j .before .before .evict in
-    let w = c .before .before .with-room in
-    let o = orderOf (a .extreme) in
-    let v : toZ w32 (ofZ w32 (a .value)) ≡ a .value = toZ-ofZ (s .fits .value) in (
+    let p = c .before .before .before .push in
+    let o = orderOf (a .extreme) in (
       omega arith,
       (
-        closed-view o (a .starts .now) (a .values .now) (a .self .ring) (a .horizon) (a .start) (a .value) (e .result) (j .if1 .left) (e .ensures .1) (left-is j)
-            (w .result) (c .before .place2 .result) (toZ w32 (ofZ w32 (a .value))) (omega (arith, left-le j)) (omega arith) (omega arith) (w .ensures .1) (c .before .place2 .ensures) v,
+        closed-tables o (a .starts .now) (a .values .now) (a .self .ring) (a .horizon) (a .start) (a .value) (e .result) (j .if1 .left) (omega (arith, left-le j)) (e .ensures .1) (left-is j)
+            (p .result .ring) (p .last .1 .0) (p .result .place) (toZ w32 (ofZ w32 (a .value))) (omega arith) (omega arith) (p .ensures .1 .0 .0) (p .ensures .1 .0 .1) (p .ensures .1 .1) (toZ-ofZ (s .fits .value)),
         (
-          cost-is o (a .starts .now) (a .values .now) (a .self .ring) (a .horizon) (a .start) (a .value) (e .result) (j .if1 .left) (e .ensures .1) (left-is j) (j .if1 .total) (a .self .comparisons) (total-is j),
+          cost-is (entryAt (a .starts .now) (a .values .now)) (a .starts .now) (λ q. refl) (a .self .ring) o (newEntry (a .start) (a .value)) (a .horizon) (e .result) (j .if1 .left) (e .ensures .1) (left-is j)
+              (j .if1 .total) (a .self .comparisons) (total-is j),
           (
-            store-beyond (a .starts .now) (c .before .place2 .result) (w .result .head) (w .result .len) (a .start) (c .before .place2 .ensures),
-            store-beyond (a .values .now) (c .before .place2 .result) (w .result .head) (w .result .len) (toZ w32 (ofZ w32 (a .value))) (c .before .place2 .ensures),
+            ap (drop capacity) (p .ensures .1 .1) ∙ store-beyond (p .result .place) _ _ (p .ensures .1 .0 .1) (a .starts .now) (a .start),
+            store-beyond (p .result .place) _ _ (p .ensures .1 .0 .1) (a .values .now) (toZ w32 (ofZ w32 (a .value))),
           ),
         ),
       ),
@@ -205,13 +193,9 @@ close-spec =
     sub-len
     loop-less
     loop-again
-    with-room-requires
-    place-requires-2
-    mul-starts
-    slice-write-starts
+    push-requires
     mul-value
     slice-set-from-value
-    add-len
     same-length
     same-length-2
     returns)

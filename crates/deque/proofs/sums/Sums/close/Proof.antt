@@ -1,6 +1,5 @@
-use mathlib.Core.Path.{_≡_, refl, sym, _∙_}
+use mathlib.Core.Path.{_≡_, refl, ap}
 use mathlib.Core.List.{List, [], _∷_, _++_}
-use Prim.Native.Nat.{ℕ, _+_}
 use borrow.Author.Needs.{needs}
 use native.Mathlib.Omega.{arith}
 use lib.IntN.{ℤ, pos}
@@ -8,36 +7,23 @@ use lib.ListN.{set, drop}
 use mir.Facts.{toZ-ofZ}
 use Rattle.ints.proofs.Round.{add-fits, add-is}
 use Rattle.window.specs.Standing.{evicted}
+use Rattle.deque.specs.declared.ring.Ring.{Ring}
 use Rattle.deque.specs.declared.sums.Sums.{Sums}
-use Rattle.deque.specs.Rings.{capacity, newest}
+use Rattle.deque.specs.Rings.{capacity, withRoom, newest}
 use Rattle.deque.specs.Sums.{partialsOf, FitsSums, InBounds}
-use Rattle.deque.proofs.Rings.{ringOf}
 use Rattle.deque.proofs.Laps.{Turned, onward, anew, Pushed, onRing, lap-fits, previous-fits, more-fits, closed-all}
 use Rattle.deque.proofs.sums.Sums.close.Statement.{statement}
 use Rattle.deque.proofs.sums.Sums.close.Tie as tie
 use Rattle.deque.proofs.sums.Sums.close.Reads as reads
 use Rattle.deque.proofs.sums.Sums.close.Lts as lts
 use Rattle.deque.proofs.ring.Ring.evict.Reads as evict-reads
-use Rattle.deque.proofs.ring.Ring.place.Reads as place-reads
-use Rattle.deque.proofs.ring.Ring.with_room.Reads as with-room-reads
+use Rattle.deque.proofs.ring.Ring.push.Reads as push-reads
 
 evict-requires : tie.Need-evict-requires
 evict-requires c κs = search needs
 
-with-room-requires : tie.Need-with-room-requires
-with-room-requires c κs = search needs
-
-place-requires : tie.Need-place-requires
-place-requires c κs = search needs
-
-mul-starts : tie.Need-mul-starts
-mul-starts c = search needs
-
-slice-write-starts : tie.Need-slice-write-starts
-slice-write-starts c = search needs
-
-add-len : tie.Need-add-len
-add-len c = search needs
+push-requires : tie.Need-push-requires
+push-requires c κs = search needs
 
 mul-sums : tie.Need-mul-sums
 mul-sums c = search needs
@@ -51,34 +37,51 @@ same-length c = search needs
 same-length-2 : tie.Need-same-length-2
 same-length-2 c = search needs
 
--- the start, from the place of the new entry
-abbrev start : tie.After-place → tie.Start
+-- the start, from the push
+abbrev start : tie.After-push → tie.Start
 start c = c .before .before .before .before .before .before
 
+-- the ring that is pushed to, with room
+abbrev room : tie.After-push → Ring
+room c = withRoom (c .before .before .evict .result)
+
 -- the state after, with its lap and the lap before
-abbrev after : tie.After-place → ℤ → ℤ → Sums
-after c lap previous = record { ring = ringOf (c .before .with-room .result .head) (c .before .with-room .result .len + 1); lap = lap; previous = previous }
+abbrev after : tie.After-push → ℤ → ℤ → Sums
+after c lap previous = record { ring = c .push .result .ring; lap = lap; previous = previous }
+
+-- the table of sums after, with v at the place of the new entry
+abbrev sumsAfter : tie.After-push → ℤ → List ℤ
+sumsAfter c v = set (start c .args .sums .now) (c .push .result .place) v
 
 -- a push that turns the laps rightly is all that is asked
-closed : (c : tie.After-place) (v lap previous : ℤ) → Turned (onRing (c .before .with-room .result) (start c .args .self)) (after c lap previous) (c .place .result) v (start c .args .sum)
+closed : (c : tie.After-push) (v lap previous : ℤ) → Turned (onRing (room c) (start c .args .self)) (after c lap previous) (c .push .result .place) v (start c .args .sum)
     → FitsSums (after c lap previous)
-    × ((partialsOf (set (start c .args .starts .now) (c .place .result) (start c .args .start)) (set (start c .args .sums .now) (c .place .result) v) (after c lap previous)
+    × ((partialsOf (c .push .last .1 .0) (sumsAfter c v) (after c lap previous)
     ≡ newest capacity (evicted (start c .args .horizon) (partialsOf (start c .args .starts .now) (start c .args .sums .now) (start c .args .self)) ++ (record { start = start c .args .start; value = start c .args .sum } ∷ [])))
-    × ((InBounds (start c .args .sums .now) (start c .args .self) → InBounds (set (start c .args .sums .now) (c .place .result) v) (after c lap previous))
-    × ((drop capacity (set (start c .args .starts .now) (c .place .result) (start c .args .start)) ≡ drop capacity (start c .args .starts .now))
-    × (drop capacity (set (start c .args .sums .now) (c .place .result) v) ≡ drop capacity (start c .args .sums .now)))))
+    × ((InBounds (start c .args .sums .now) (start c .args .self) → InBounds (sumsAfter c v) (after c lap previous))
+    × ((drop capacity (c .push .last .1 .0) ≡ drop capacity (start c .args .starts .now)) × (drop capacity (sumsAfter c v) ≡ drop capacity (start c .args .sums .now)))))
 closed c v lap previous t =
     let s = start c in
     let a = s .args in
-    closed-all (a .starts .now) (a .self) (a .horizon) (c .before .before .evict .result) (c .before .with-room .result) (c .before .before .evict .ensures .1) (c .before .with-room .ensures .1)
-    (s .pre .0) (s .pre .3) pushed (set (a .starts .now) (c .place .result) (a .start)) (a .start) (omega arith) refl
+    let e = c .before .before .evict in
+    closed-all (a .starts .now) (a .self) (a .horizon) (e .result) (room c) (e .ensures .1) refl
+    (s .pre .0) (s .pre .3) pushed (c .push .last .1 .0) (a .start) (omega arith) (c .push .ensures .1 .1)
   where
-    pushed : Pushed (start c .args .sums .now) (set (start c .args .sums .now) (c .place .result) v) (onRing (c .before .with-room .result) (start c .args .self)) (after c lap previous) (c .place .result) v (start c .args .sum)
-    pushed = record { inside = omega arith; room = omega arith; long = omega arith; next = c .place .ensures; stored = refl; head = refl; len = refl; turned = t }
+    pushed : Pushed (start c .args .sums .now) (sumsAfter c v) (onRing (room c) (start c .args .self)) (after c lap previous) (c .push .result .place) v (start c .args .sum)
+    pushed = record {
+      inside = omega arith;
+      room = omega arith;
+      long = omega arith;
+      next = c .push .ensures .1 .0 .1;
+      stored = refl;
+      head = ap (λ (r : Ring). r .head) (c .push .ensures .1 .0 .0);
+      len = ap (λ (r : Ring). r .len) (c .push .ensures .1 .0 .0);
+      turned = t;
+    }
 
 returns : tie.Need-returns
 returns c =
-    let p = c .before .before .before in
+    let p = c .before .before .before .before .before in
     let s = start p in
     closed p (pos 0) _ _ (anew (c .if1 .taken) refl (toZ-ofZ (s .fits .sum)) (toZ-ofZ (lap-fits (s .args .self) (s .pre .0))))
 
@@ -90,7 +93,7 @@ slice-set-from-lap c = search needs
 
 add-longer : tie.Need-add-longer
 add-longer c =
-    let s = start (c .before .before .before) in
+    let s = start (c .before .before .before .before .before) in
     add-fits (toZ-ofZ (lap-fits (s .args .self) (s .pre .0))) (toZ-ofZ (s .fits .sum)) (more-fits (s .args .self) (s .pre .0) (s .args .sum) (s .pre .3))
 
 same-length-3 : tie.Need-same-length-3
@@ -101,7 +104,7 @@ same-length-4 c = search needs
 
 returns-2 : tie.Need-returns-2
 returns-2 c =
-    let p = c .before .before .before .before in
+    let p = c .before .before .before .before .before .before in
     let s = start p in
     let l = toZ-ofZ (lap-fits (s .args .self) (s .pre .0)) in
     closed p _ _ _ (onward (c .before .if1 .left) l (add-is l (toZ-ofZ (s .fits .sum)) (more-fits (s .args .self) (s .pre .0) (s .args .sum) (s .pre .3))) (toZ-ofZ (previous-fits (s .args .self) (s .pre .0))))
@@ -111,11 +114,7 @@ close-spec =
     tie.close
     (tie.spec
     evict-requires
-    with-room-requires
-    place-requires
-    mul-starts
-    slice-write-starts
-    add-len
+    push-requires
     mul-sums
     slice-set-of-sums
     same-length
