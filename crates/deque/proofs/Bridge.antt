@@ -2,14 +2,13 @@
 -- windows computed from it are those of the model.
 -- Assumes nothing.
 use mathlib.Core.Path.{_≡_, refl, sym, ap, _∙_}
-use mathlib.Core.Bool.{Bool, true, false, cond}
+use mathlib.Core.Bool.{Bool}
 use mathlib.Core.List.{List, [], _∷_, _++_, map}
 use Prim.Native.Nat.{ℕ, _+_, _-_, _≤_, _<_}
 use native.Mathlib.Nat.{le-refl}
 use native.Mathlib.Omega.{arith}
 use lib.IntN.{ℤ, pos}
 use lib.ListN.{length, length-append, length-map}
-use borrow.Author.Tests.{leb-false, lt-leb}
 use Rattle.window.specs.declared.query.Query.{Query}
 use Rattle.window.specs.Orders.{Order, sum, extreme}
 use Rattle.window.specs.Queries.{windowStart, horizon}
@@ -18,13 +17,13 @@ use Rattle.window.specs.Standing.{standing, comparisons, frontOf, evicted}
 use Rattle.window.specs.Model.{State, count, window, standingAt, closingComparisons}
 use Rattle.window.specs.Invariant.{Ordered, Sorted, FromPartials}
 use Rattle.window.proofs.Lists.{filter-append}
-use Rattle.window.proofs.Standing.{evicted-from, standing-from, standing-snoc}
-use Rattle.window.proofs.Tiling.{ordered-weaken, ordered-snoc, ordered-sorted, entries-from, entries-snoc}
+use Rattle.window.proofs.Standing.{evicted-from, standing-from, standing-snoc, standing-sorted, standing-le}
+use Rattle.window.proofs.Tiling.{ordered-weaken, ordered-snoc, ordered-sorted, ordered-from, from-from, entries-from, entries-snoc}
 use Rattle.window.proofs.Windows.{from-few}
 use Rattle.deque.specs.Rings.{capacity, newest}
 use Rattle.deque.specs.Extremes.{trimmed, closedWith, closingCost}
 use Rattle.deque.specs.Retained.{Retained}
-use Rattle.deque.proofs.Trimming.{trimmed-le, trimmed-standing, trim-comparisons, standing-sorted, standing-le}
+use Rattle.deque.proofs.Trimming.{trimmed-le, trimmed-standing, trim-comparisons}
 
 -- ---- room
 
@@ -39,27 +38,6 @@ newest-snoc n xs y l = newest-few n (xs ++ (y ∷ [])) (omega (arith, length-app
 -- a push never meets a full ring: of partials that are over by a, before n, fewer than 4,096 start at h or later where n is at most 4,096 past h
 pub room : (h : ℕ) (ps : List Partial) (a n : ℕ) → Ordered 0 ps a → a < n → n ≤ h + capacity → length (partialsFrom h ps) < capacity
 room h ps a n o l k = omega (arith, from-few h 0 ps a o)
-
--- ---- the partials from a place on
-
--- those from a later place on, of those from an earlier one on
-from-from : (h h′ : ℕ) (ps : List Partial) → h ≤ h′ → partialsFrom h′ (partialsFrom h ps) ≡ partialsFrom h′ ps
-from-from h h′ [] l = refl
-from-from h h′ (p ∷ ps) l = go (live h (p .start)) refl (from-from h h′ ps l)
-  where
-    go : (b : Bool) → live h (p .start) ≡ b → partialsFrom h′ (partialsFrom h ps) ≡ partialsFrom h′ ps
-        → partialsFrom h′ (cond b (p ∷ partialsFrom h ps) (partialsFrom h ps)) ≡ partialsFrom h′ (p ∷ ps)
-    go true e ih = rw ih
-    go false e ih = rw (lt-leb h′ (p .start) (omega (arith, leb-false h (p .start) e)), ih)
-
--- those from a place on lie in order where all do
-ordered-from : (h a b : ℕ) (ps : List Partial) (c : ℕ) → a ≤ b → Ordered b ps c → Ordered a (partialsFrom h ps) c
-ordered-from h a b [] c l o = omega arith
-ordered-from h a b (p ∷ ps) c l o = go (live h (p .start)) (λ d k. ordered-from h d (p .stop) ps c k (o .2))
-  where
-    go : (t : Bool) → ((d : ℕ) → d ≤ p .stop → Ordered d (partialsFrom h ps) c) → Ordered a (cond t (p ∷ partialsFrom h ps) (partialsFrom h ps)) c
-    go true f = (omega arith, o .1, f (p .stop) (le-refl (p .stop)))
-    go false f = f a (omega arith)
 
 -- ---- what the rings retain
 

@@ -12,8 +12,8 @@ use lib.ListN.{length, getD, set, drop}
 use mir.Syntax.{w64}
 use mir.Val.{SFits}
 use Rattle.ints.specs.Sizes.{up, dn, Small}
-use Rattle.ints.proofs.Balance.{bal-add, bal-sub, ext, fits64}
-use Rattle.ints.proofs.Sizes.{small-of, small-more, small-fits}
+use Rattle.ints.proofs.Balance.{bal-add, bal-sub, ext}
+use Rattle.ints.proofs.Sizes.{small-more, small-add, small-sub, small-fits}
 use Rattle.window.specs.Orders.{sum}
 use Rattle.window.specs.Partials.{Entry, valueOf}
 use Rattle.window.specs.Standing.{evicted}
@@ -97,21 +97,22 @@ module _ (s : Sums) (f : FitsSums s) where
 
   -- the lap with the sum of a partial more fits
   pub more-fits : (x : ℤ) → Small sumLimit x → SFits w64 (s .lap +ℤ x)
-  more-fits x m = let b = bal-add (s .lap) x in let k = lap-small in fits64 (s .lap +ℤ x) (omega arith) (omega arith)
+  more-fits x m = small-fits (lapLimit + sumLimit) (s .lap +ℤ x) (omega arith) (small-add lapLimit sumLimit (s .lap) x lap-small m)
 
   -- z is a number of the table, which `InBounds` bounds, or one clamped to that bound
   module _ (z : ℤ) (m : Small lapLimit z) where
+    since-small : Small (lapLimit + lapLimit) (s .lap -ℤ z)
+    since-small = small-sub lapLimit lapLimit (s .lap) z lap-small m
+
     -- the lap without it fits
     pub since-fits : SFits w64 (s .lap -ℤ z)
-    since-fits = let b = bal-sub (s .lap) z in let k = lap-small in fits64 (s .lap -ℤ z) (omega arith) (omega arith)
+    since-fits = small-fits (lapLimit + lapLimit) (s .lap -ℤ z) (omega arith) since-small
 
     -- and so does that with the lap before
     pub both-fit : SFits w64 (s .lap -ℤ z +ℤ s .previous)
     both-fit =
-        let b = bal-sub (s .lap) z in
-        let d = bal-add (s .lap -ℤ z) (s .previous) in
-        let k = lap-small in
-        fits64 (s .lap -ℤ z +ℤ s .previous) (omega arith) (omega arith)
+        small-fits (lapLimit + lapLimit + lapLimit) (s .lap -ℤ z +ℤ s .previous) (omega arith)
+        (small-add (lapLimit + lapLimit) lapLimit (s .lap -ℤ z) (s .previous) since-small (f .previous))
 
 -- ---- eviction
 
@@ -261,7 +262,7 @@ module _ {sums sums₁ : List ℤ} {s s₁ : Sums} {q : ℕ} {v x : ℤ} (c : Pu
   turned-fits : Fits (s₁ .ring) → FitsSums s → Small sumLimit x → Turned s s₁ q v x → FitsSums s₁
   turned-fits r f m (onward nz _ d e) = record {
     ring = r;
-    lap = subst (Small _) (sym d) (let b = bal-add (s .lap) x in small-of (s .lap +ℤ x) _ (omega arith) (omega arith));
+    lap = subst (Small _) (sym d) (small-more _ _ (s .lap +ℤ x) (omega arith) (small-add _ sumLimit (s .lap) x (f .lap) m));
     previous = subst (Small lapLimit) (sym e) (f .previous);
   }
   turned-fits r f m (anew z _ d e) = record {

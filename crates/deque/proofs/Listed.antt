@@ -1,10 +1,10 @@
 -- The laws of a list made of an index function: its ends, its length, and what is left when the first are dropped.
 -- Assumes nothing.
-use Prim.Native.Nat.{ℕ, zero, suc, _+_, _-_, _<_, _≤_}
+use Prim.Native.Nat.{ℕ, zero, suc, _+_, _-_, _<_}
 use mathlib.Core.Path.{_≡_, refl, ap, ap₂, _∙_}
 use mathlib.Core.List.{List, [], _∷_, _++_, map}
 use native.Mathlib.Omega.{arith}
-use lib.ListN.{length, drop, getD}
+use lib.ListN.{length, drop}
 use Rattle.deque.specs.Rings.{listed}
 
 one-more : (n : ℕ) → 0 < n → n ≡ suc (n - 1)
@@ -21,6 +21,11 @@ module _ {A : Type 0} where
   unfolding listed
   length-listed zero f = refl
   length-listed (suc n) f = ap suc (length-listed n (λ j. f (suc j)))
+
+  -- the empty list
+  pub listed-none : (n : ℕ) (f : ℕ → A) → n ≡ 0 → listed n f ≡ []
+  unfolding listed
+  listed-none n f e = rw e
 
   -- the first element, and the rest
   pub listed-front : (n : ℕ) (f : ℕ → A) → 0 < n → listed n f ≡ f 0 ∷ listed (n - 1) (λ j. f (suc j))

@@ -7,14 +7,14 @@ use mathlib.Core.List.{List, [], _∷_, _++_, map}
 use native.Mathlib.Omega.{arith}
 use lib.ListN.{length, drop, length-append}
 use lib.Seq.{drop-append-le}
-use borrow.Author.Tests.{leb-true, leb-false, le-leb, lt-leb}
+use borrow.Author.Tests.{le-leb, lt-leb}
 use Rattle.window.specs.Lists.{Each}
 use Rattle.window.specs.Partials.{Entry, live}
 use Rattle.window.specs.Standing.{evicted}
 use Rattle.window.specs.Invariant.{Sorted}
 use Rattle.deque.specs.declared.ring.Ring.{Ring}
 use Rattle.deque.specs.Rings.{capacity, place, Fits, listed, view, startAt, startsOf, advanced, withRoom, grown, countBefore, NeverFalls, newest}
-use Rattle.deque.proofs.Listed.{listed-cong, length-listed, listed-front, listed-more, listed-drop, listed-map}
+use Rattle.deque.proofs.Listed.{listed-cong, listed-front, listed-more, listed-drop}
 
 -- the ring that starts at place h and has n entries
 abbrev pub ringOf : ℕ → ℕ → Ring

@@ -2,7 +2,7 @@
 -- most the new one and no other, and what that costs.
 -- Assumes nothing.
 use mathlib.Core.Path.{_≡_, refl, sym, _∙_}
-use mathlib.Core.Bool.{Bool, true, false, _&&_, cond, and-true, and-false}
+use mathlib.Core.Bool.{Bool, true, false, cond, and-true, and-false}
 use mathlib.Core.List.{List, [], _∷_, _++_}
 use Prim.Native.Nat.{_≤_, suc, zero-le, suc-le-suc}
 use native.Mathlib.Omega.{arith}
@@ -12,31 +12,9 @@ use Rattle.window.specs.Lists.{filter, all, Each}
 use Rattle.window.specs.Orders.{Order}
 use Rattle.window.specs.Partials.{Entry}
 use Rattle.window.specs.Standing.{atMost, exceeds, standing, comparisons}
-use Rattle.window.specs.Invariant.{Sorted}
-use Rattle.window.proofs.Lists.{and-left, and-right, each-map, length-parts}
+use Rattle.window.proofs.Lists.{each-map, all-each, each-all, all-snoc, length-parts}
+use Rattle.window.proofs.Standing.{each-standing}
 use Rattle.deque.specs.Extremes.{trimmed, trimComparisons}
-
--- ---- a test of every element
-
-module _ {A : Type 0} (p : A → Bool) where
-  -- all pass: so each does
-  all-each : (xs : List A) → all p xs ≡ true → Each (λ (x : A). p x ≡ true) xs
-  all-each [] h = tt
-  all-each (x ∷ xs) h = (and-left (p x) (all p xs) h, all-each xs (and-right (p x) (all p xs) h))
-
-  -- each passes: so all do
-  each-all : (xs : List A) → Each (λ (x : A). p x ≡ true) xs → all p xs ≡ true
-  each-all [] h = refl
-  each-all (x ∷ xs) h = rw (h .0) (each-all xs (h .1))
-
-  -- one more at the end, which passes or fails
-  all-snoc : (xs : List A) (x : A) (b : Bool) → p x ≡ b → all p (xs ++ (x ∷ [])) ≡ (all p xs && b)
-  all-snoc [] x b e = rw (e, and-true b)
-  all-snoc (y ∷ ys) x b e = rw (all-snoc ys x b e) (go (p y))
-    where
-      go : (c : Bool) → (c && (all p ys && b)) ≡ ((c && all p ys) && b)
-      go true = refl
-      go false = refl
 
 module _ {A : Type 0} (below : A → A → Bool) where
   -- ---- dropping from the end
@@ -50,13 +28,13 @@ module _ {A : Type 0} (below : A → A → Bool) where
     pub trimmed-snoc-drop : (xs : List (Entry A)) (x : Entry A) → atMost below x y ≡ true → trimmed below y (xs ++ (x ∷ [])) ≡ trimmed below y xs
     unfolding trimmed
     trimmed-snoc-drop [] x e = rw e
-    trimmed-snoc-drop (z ∷ zs) x e = rw (all-snoc goes zs x true e, and-true (all goes zs), trimmed-snoc-drop zs x e)
+    trimmed-snoc-drop (z ∷ zs) x e = rw (all-snoc goes zs x, e, and-true (all goes zs), trimmed-snoc-drop zs x e)
 
     -- an entry at the end that is greater than y stays, and so does all before it
     pub trimmed-snoc-keep : (xs : List (Entry A)) (x : Entry A) → atMost below x y ≡ false → trimmed below y (xs ++ (x ∷ [])) ≡ xs ++ (x ∷ [])
     unfolding trimmed
     trimmed-snoc-keep [] x e = rw e
-    trimmed-snoc-keep (z ∷ zs) x e = rw (all-snoc goes zs x false e, and-false (all goes zs), and-false (goes z), trimmed-snoc-keep zs x e)
+    trimmed-snoc-keep (z ∷ zs) x e = rw (all-snoc goes zs x, e, and-false (all goes zs), and-false (goes z), trimmed-snoc-keep zs x e)
 
     -- nothing is added
     pub trimmed-le : (xs : List (Entry A)) → length (trimmed below y xs) ≤ length xs
@@ -75,33 +53,6 @@ module _ {A : Type 0} (below : A → A → Bool) where
     trimmed-none (x ∷ xs) h = rw (each-all goes (x ∷ xs) h)
 
   -- ---- of a standing list
-
-  -- what holds of every entry holds of those that stand
-  each-standing : (P : Entry A → Type 0) (xs : List (Entry A)) → Each P xs → Each P (standing below xs)
-  each-standing P [] h = tt
-  each-standing P (x ∷ xs) h = go (all (exceeds below x) xs) (each-standing P xs (h .1))
-    where
-      go : (b : Bool) → Each P (standing below xs) → Each P (cond b (x ∷ standing below xs) (standing below xs))
-      go true k = (h .0, k)
-      go false k = k
-
-  -- no more stand than there are
-  pub standing-le : (xs : List (Entry A)) → length (standing below xs) ≤ length xs
-  standing-le [] = zero-le
-  standing-le (x ∷ xs) = go (all (exceeds below x) xs) (standing-le xs)
-    where
-      go : (b : Bool) → length (standing below xs) ≤ length xs → length (cond b (x ∷ standing below xs) (standing below xs)) ≤ suc (length xs)
-      go true ih = suc-le-suc ih
-      go false ih = omega arith
-
-  -- where starts never fall, those of the standing entries never do
-  pub standing-sorted : (xs : List (Entry A)) → Sorted xs → Sorted (standing below xs)
-  standing-sorted [] s = tt
-  standing-sorted (x ∷ xs) s = go (all (exceeds below x) xs) (standing-sorted xs (s .1))
-    where
-      go : (b : Bool) → Sorted (standing below xs) → Sorted (cond b (x ∷ standing below xs) (standing below xs))
-      go true k = (each-standing (λ (y : Entry A). x .start ≤ y .start) xs (s .0), k)
-      go false k = k
 
   module _ (order : Order below) (y : Entry A) where
     -- x is at most y and exceeds every later one: so all are at most y
@@ -127,7 +78,7 @@ module _ {A : Type 0} (below : A → A → Bool) where
             trimmed-none y (x ∷ standing below xs) (e, gone) ∙ sym (rw e (sym ih ∙ trimmed-none y (standing below xs) gone))
           where
             gone : Each (λ (z : Entry A). atMost below z y ≡ true) (standing below xs)
-            gone = each-standing (λ (z : Entry A). atMost below z y ≡ true) xs (below-later x xs e h)
+            gone = each-standing below (λ (z : Entry A). atMost below z y ≡ true) xs (below-later x xs e h)
         go true false h e ih = rw (e, ih)
         go false c h e ih = ih
 

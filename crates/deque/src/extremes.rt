@@ -4,8 +4,9 @@ use crate::compare::compare;
 use crate::ring::Ring;
 use window::query::Count;
 ghost use mathlib.Core.Path.{_≡_};
-ghost use Prim.Native.Nat.{_+_, _<_, _≤_, _^_};
-ghost use lib.IntN.{pos};
+ghost use mathlib.Core.List.{List, []};
+ghost use Prim.Native.Nat.{ℕ, _+_, _<_, _≤_, _^_};
+ghost use lib.IntN.{ℤ, pos};
 ghost use lib.ListN.{length, drop};
 ghost use Rattle.window.specs.Standing.{evicted, frontOf};
 ghost use Rattle.window.specs.Invariant.{Sorted};
@@ -19,6 +20,19 @@ pub struct Deque {
 }
 
 impl Deque {
+    // No entry, and no comparison made.
+    pub fn empty() -> Deque
+        ensures fits { λ r. ⌜ Fits (r .ring) ⌝ }
+        ensures entries { λ r. ⌜ ((starts : List ℕ) (values : List ℤ) → entriesOf starts values (r .ring) ≡ []) ⌝ }
+        ensures cost { λ r. ⌜ r .comparisons ≡ 0 ⌝ }
+    {
+        let ring = Ring::empty();
+        Deque {
+            ring,
+            comparisons: 0,
+        }
+    }
+
     // The closing step: the partial that starts at `start` closes with `value`.
     pub fn close(
         self,

@@ -30,6 +30,13 @@ pub(crate) fn next_place(p: usize) -> usize
 }
 
 impl Ring {
+    // No entry.
+    pub(crate) fn empty() -> Ring
+        ensures { λ r. ⌜ Fits r × (r .head ≡ 0) × (r .len ≡ 0) ⌝ }
+    {
+        Ring { head: 0, len: 0 }
+    }
+
     // Whether a ring that was handed in can be used.
     pub fn fits(self) -> bool
         ensures { λ r. ⌜ (r ≡ true → Fits self) × (Fits self → r ≡ true) ⌝ }

@@ -5,8 +5,9 @@ use crate::ring::Ring;
 use window::query::Count;
 ghost use mathlib.Core.Path.{_≡_};
 ghost use mathlib.Core.Bool.{true};
-ghost use mathlib.Core.List.{[], _∷_, _++_, map};
-ghost use Prim.Native.Nat.{_*_, _<_, _≤_};
+ghost use mathlib.Core.List.{List, [], _∷_, _++_, map};
+ghost use Prim.Native.Nat.{ℕ, _*_, _<_, _≤_};
+ghost use lib.IntN.{ℤ};
 ghost use lib.ListN.{length, drop};
 ghost use Rattle.ints.specs.Sizes.{Small};
 ghost use Rattle.window.specs.Orders.{sum};
@@ -42,6 +43,20 @@ fn lap_bound(p: usize) -> u64
 }
 
 impl Sums {
+    // No partial.
+    pub fn empty() -> Sums
+        ensures fits { λ r. ⌜ FitsSums r ⌝ }
+        ensures entries { λ r. ⌜ ((starts : List ℕ) (sums : List ℤ) → partialsOf starts sums r ≡ []) ⌝ }
+        ensures bounds { λ r. ⌜ ((sums : List ℤ) → InBounds sums r) ⌝ }
+    {
+        let ring = Ring::empty();
+        Sums {
+            ring,
+            lap: 0,
+            previous: 0,
+        }
+    }
+
     // Whether a state that was handed in can be used.
     pub fn fits(self) -> bool
         ensures { λ r. ⌜ (r ≡ true → FitsSums self) × (FitsSums self → r ≡ true) ⌝ }

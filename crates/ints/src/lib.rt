@@ -5,7 +5,7 @@ ghost use Prim.Native.Nat.{_<_, _^_};
 ghost use lib.IntN.{_+ℤ_};
 ghost use mir.Syntax.{w64};
 ghost use mir.Val.{SFits};
-ghost use Rattle.ints.specs.Sizes.{Small};
+ghost use Rattle.ints.specs.Sizes.{Small, clamped};
 
 // The sum with one number more, which is widened.
 pub fn add_widened(sum: i64, x: i32) -> i64
@@ -32,11 +32,15 @@ pub fn is_small(bound: u64, x: i64) -> bool
 // x, or the nearest number that is at most the bound in size. For numbers of which nothing is known.
 pub fn clamp(bound: u64, x: i64) -> i64
     requires { ⌜ bound < 2 ^ 63 ⌝ }
-    ensures { λ r. ⌜ Small bound r × (Small bound x → r ≡ x) ⌝ }
+    ensures { λ r. ⌜ r ≡ clamped bound x ⌝ }
 {
-    if is_small(bound, x) {
-        return x;
-    }
     let most = bound as i64;
-    if x < 0 { 0 - most } else { most }
+    if most < x {
+        return most;
+    }
+    let least = 0 - most;
+    if x < least {
+        return least;
+    }
+    x
 }

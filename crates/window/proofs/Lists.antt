@@ -3,12 +3,12 @@
 use mathlib.Core.Path.{_≡_, refl, ap}
 use Prim.Native.Nat.{ℕ, suc, _+_, _≤_, _<_, zero-le, suc-le-suc}
 use native.Mathlib.Omega.{arith}
-use mathlib.Core.Bool.{Bool, true, false, not, _&&_, _||_, cond}
+use mathlib.Core.Bool.{Bool, true, false, not, _&&_, _||_, cond, and-true}
 use mathlib.Core.List.{List, [], _∷_, _++_, map}
 use lib.Dec.{leb}
 use lib.ListN.{length}
 use borrow.Author.Tests.{leb-true, leb-false}
-use Rattle.window.specs.Lists.{filter, any, Each}
+use Rattle.window.specs.Lists.{filter, all, any, Each}
 
 -- ---- tests
 
@@ -64,6 +64,24 @@ module _ {A : Type 0} where
       go : (b : Bool) → Each P (filter p xs) → Each P (cond b (x ∷ filter p xs) (filter p xs))
       go true k = (h .0, k)
       go false k = k
+
+  -- ---- a test of every element
+
+  pub all-each : (p : A → Bool) (xs : List A) → all p xs ≡ true → Each (λ (x : A). p x ≡ true) xs
+  all-each p [] h = tt
+  all-each p (x ∷ xs) h = (and-left (p x) (all p xs) h, all-each p xs (and-right (p x) (all p xs) h))
+
+  pub each-all : (p : A → Bool) (xs : List A) → Each (λ (x : A). p x ≡ true) xs → all p xs ≡ true
+  each-all p [] h = refl
+  each-all p (x ∷ xs) h = rw (h .0) (each-all p xs (h .1))
+
+  pub all-snoc : (p : A → Bool) (xs : List A) (x : A) → all p (xs ++ (x ∷ [])) ≡ (all p xs && p x)
+  all-snoc p [] x = and-true (p x)
+  all-snoc p (y ∷ ys) x = rw (all-snoc p ys x) (go (p y))
+    where
+      go : (b : Bool) → (b && (all p ys && p x)) ≡ ((b && all p ys) && p x)
+      go true = refl
+      go false = refl
 
   -- ---- filter
 

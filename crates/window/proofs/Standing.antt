@@ -4,7 +4,7 @@
 use mathlib.Core.Path.{_≡_, refl, sym, ap, _∙_}
 use mathlib.Core.Bool.{Bool, true, false, not, _&&_, _||_, cond, and-true}
 use mathlib.Core.List.{List, [], _∷_, _++_, map}
-use Prim.Native.Nat.{ℕ, _+_, _≤_, zero-le}
+use Prim.Native.Nat.{ℕ, suc, _+_, _≤_, zero-le, suc-le-suc}
 use native.Mathlib.Omega.{arith}
 use lib.ListN.{length, length-append}
 use borrow.Author.Tests.{leb-true, le-leb}
@@ -13,7 +13,7 @@ use Rattle.window.specs.Orders.{Order, aggregate, greater}
 use Rattle.window.specs.Partials.{Entry, live, entriesFrom, valueOf}
 use Rattle.window.specs.Standing.{exceeds, atMost, standing, frontOf, evicted, oneIfAny, comparisons}
 use Rattle.window.specs.Invariant.{Sorted}
-use Rattle.window.proofs.Lists.{each-map, filter-every, length-filter, length-parts, filter-comm}
+use Rattle.window.proofs.Lists.{each-map, all-snoc, filter-every, length-filter, length-parts, filter-comm}
 use Rattle.window.proofs.Orders.{below-greater}
 
 -- ---- eviction
@@ -37,19 +37,10 @@ evicted-from {A} h (x ∷ xs) s = go (live h (x .start)) refl (evicted-from h xs
 -- ---- closing
 
 module _ {A : Type 0} (below : A → A → Bool) where
-  all-snoc : (x : Entry A) (ys : List (Entry A)) (y : Entry A) → all (exceeds below x) (ys ++ (y ∷ [])) ≡ (all (exceeds below x) ys && exceeds below x y)
-  all-snoc x [] y = and-true (exceeds below x y)
-  all-snoc x (z ∷ zs) y = go (exceeds below x z) (all-snoc x zs y)
-    where
-      go : (b : Bool) → all (exceeds below x) (zs ++ (y ∷ [])) ≡ (all (exceeds below x) zs && exceeds below x y)
-          → (b && all (exceeds below x) (zs ++ (y ∷ []))) ≡ ((b && all (exceeds below x) zs) && exceeds below x y)
-      go true ih = ih
-      go false ih = refl
-
   -- a closing: the standing entries that are at most the new one go, and the new one joins the end
   pub standing-snoc : (xs : List (Entry A)) (y : Entry A) → standing below (xs ++ (y ∷ [])) ≡ filter (λ (x : Entry A). exceeds below x y) (standing below xs) ++ (y ∷ [])
   standing-snoc [] y = refl
-  standing-snoc (x ∷ xs) y = rw (all-snoc x xs y) (go (all (exceeds below x) xs) (exceeds below x y) refl (standing-snoc xs y))
+  standing-snoc (x ∷ xs) y = rw (all-snoc (exceeds below x) xs y) (go (all (exceeds below x) xs) (exceeds below x y) refl (standing-snoc xs y))
     where
       p : Entry A → Bool
       p = λ (z : Entry A). exceeds below z y
@@ -59,6 +50,35 @@ module _ {A : Type 0} (below : A → A → Bool) where
       go true true e ih = rw (e, ih)
       go true false e ih = rw (e, ih)
       go false c e ih = ih
+
+  -- ---- what stands
+
+  -- what holds of every entry holds of those that stand
+  pub each-standing : (P : Entry A → Type 0) (xs : List (Entry A)) → Each P xs → Each P (standing below xs)
+  each-standing P [] h = tt
+  each-standing P (x ∷ xs) h = go (all (exceeds below x) xs) (each-standing P xs (h .1))
+    where
+      go : (b : Bool) → Each P (standing below xs) → Each P (cond b (x ∷ standing below xs) (standing below xs))
+      go true k = (h .0, k)
+      go false k = k
+
+  -- no more stand than there are
+  pub standing-le : (xs : List (Entry A)) → length (standing below xs) ≤ length xs
+  standing-le [] = zero-le
+  standing-le (x ∷ xs) = go (all (exceeds below x) xs) (standing-le xs)
+    where
+      go : (b : Bool) → length (standing below xs) ≤ length xs → length (cond b (x ∷ standing below xs) (standing below xs)) ≤ suc (length xs)
+      go true ih = suc-le-suc ih
+      go false ih = omega arith
+
+  -- where starts never fall, those of the standing entries never do
+  pub standing-sorted : (xs : List (Entry A)) → Sorted xs → Sorted (standing below xs)
+  standing-sorted [] s = tt
+  standing-sorted (x ∷ xs) s = go (all (exceeds below x) xs) (standing-sorted xs (s .1))
+    where
+      go : (b : Bool) → Sorted (standing below xs) → Sorted (cond b (x ∷ standing below xs) (standing below xs))
+      go true k = (each-standing (λ (y : Entry A). x .start ≤ y .start) xs (s .0), k)
+      go false k = k
 
   -- W4: evicting the entries that start before h, and standing, can be done in either order
   pub standing-from : (h : ℕ) (xs : List (Entry A)) → Sorted xs → standing below (entriesFrom h xs) ≡ entriesFrom h (standing below xs)

@@ -1,14 +1,14 @@
 -- The laws of partials that lie in order or tile a stretch of the readings: W2 and W3.
 -- Assumes nothing.
 use mathlib.Core.Path.{_≡_, refl, sym, ap, _∙_}
-use mathlib.Core.Bool.{false}
+use mathlib.Core.Bool.{Bool, true, false, cond}
 use mathlib.Core.List.{List, [], _∷_, _++_, map}
 use Prim.Native.Nat.{ℕ, _+_, _≤_, _<_}
 use native.Mathlib.Nat.{le-refl}
 use native.Mathlib.Omega.{arith}
 use lib.ListN.{length, take, drop, take-append-drop}
 use lib.Seq.{slice-empty, length-slice, take-take, length-take-le, drop-append-le, take-append-le}
-use borrow.Author.Tests.{le-leb, lt-leb}
+use borrow.Author.Tests.{leb-false, le-leb, lt-leb}
 use Rattle.window.specs.Lists.{joined, Each}
 use Rattle.window.specs.Orders.{aggregate}
 use Rattle.window.specs.Partials.{Partial, spanning, Entry, between, held, entry, entries, live, partialsFrom, entriesFrom, valueOf}
@@ -68,6 +68,25 @@ from-none a ps m o =
 -- one more, which starts there or later
 pub from-snoc : (m : ℕ) (ps : List Partial) (p : Partial) → m ≤ p .start → partialsFrom m (ps ++ (p ∷ [])) ≡ partialsFrom m ps ++ (p ∷ [])
 from-snoc m ps p l = filter-append (λ (q : Partial). live m (q .start)) ps (p ∷ []) ∙ rw (le-leb m (p .start) l)
+
+-- those from a later place on, of those from an earlier one on
+pub from-from : (h h′ : ℕ) (ps : List Partial) → h ≤ h′ → partialsFrom h′ (partialsFrom h ps) ≡ partialsFrom h′ ps
+from-from h h′ [] l = refl
+from-from h h′ (p ∷ ps) l = go (live h (p .start)) refl (from-from h h′ ps l)
+  where
+    go : (b : Bool) → live h (p .start) ≡ b → partialsFrom h′ (partialsFrom h ps) ≡ partialsFrom h′ ps
+        → partialsFrom h′ (cond b (p ∷ partialsFrom h ps) (partialsFrom h ps)) ≡ partialsFrom h′ (p ∷ ps)
+    go true e ih = rw ih
+    go false e ih = rw (lt-leb h′ (p .start) (omega (arith, leb-false h (p .start) e)), ih)
+
+-- those from a place on lie in order where all do
+pub ordered-from : (h a b : ℕ) (ps : List Partial) (c : ℕ) → a ≤ b → Ordered b ps c → Ordered a (partialsFrom h ps) c
+ordered-from h a b [] c l o = omega arith
+ordered-from h a b (p ∷ ps) c l o = go (live h (p .start)) (λ d k. ordered-from h d (p .stop) ps c k (o .2))
+  where
+    go : (t : Bool) → ((d : ℕ) → d ≤ p .stop → Ordered d (partialsFrom h ps) c) → Ordered a (cond t (p ∷ partialsFrom h ps) (partialsFrom h ps)) c
+    go true f = (omega arith, o .1, f (p .stop) (le-refl (p .stop)))
+    go false f = f a (omega arith)
 
 -- ---- their entries
 

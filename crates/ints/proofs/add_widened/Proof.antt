@@ -1,6 +1,6 @@
-use mathlib.Core.Path.{_≡_, sym, subst}
+use mathlib.Core.Path.{sym, subst}
 use mir.Syntax.{w32, w64}
-use mir.Val.{SFits, toZ, ofZ}
+use mir.Val.{SFits}
 use mir.Facts.{toZ-ofZ, sfits-widen}
 use Rattle.ints.proofs.Round.{add-fits, add-is, moved}
 use Rattle.ints.proofs.add_widened.Statement.{statement}

@@ -1,13 +1,13 @@
 use mathlib.Core.Path.{_≡_, refl, sym, ap₂, _∙_}
 use mathlib.Core.Bool.{false≢true}
 use native.Mathlib.Omega.{arith}
-use lib.IntN.{pos, _-ℤ_}
+use lib.IntN.{pos, negℤ, _-ℤ_}
 use lib.Signed.{leZ}
 use mir.Syntax.{w64}
 use mir.Val.{toZ, ofZ}
 use mir.Facts.{toZ-ofZ, toZ-pos}
 use Rattle.ints.proofs.Round.{sub-fits, sub-is}
-use Rattle.ints.proofs.Sizes.{most-fits, least-fits, above-large, small-within, within-small}
+use Rattle.ints.proofs.Sizes.{least-is, most-fits, least-fits, above-large, between-small, small-above}
 use Rattle.ints.proofs.is_small.Statement.{statement}
 use Rattle.ints.proofs.is_small.Tie as tie
 use Rattle.ints.proofs.is_small.Reads as reads
@@ -25,18 +25,20 @@ returns c =
     (λ e. absurd (false≢true e), λ small. absurd (above-large (s .args .bound) (s .args .x) (rw (most-is s, toZ-ofZ (s .fits .x)) at (c .if1 .taken)) small))
 
 sub-least : tie.Need-sub-least
-sub-least c = sub-fits {a = pos 0} refl (most-is (c .before)) (least-fits (c .before .args .bound) (omega arith))
+sub-least c = sub-fits {a = pos 0} refl (most-is (c .before)) (rw (least-is (c .before .args .bound)) (least-fits (c .before .args .bound) (omega arith)))
 
 -- the test of the least number, of the numbers themselves
 test-is : (c : tie.Else1)
-    → leZ (toZ w64 (ofZ w64 (pos 0 -ℤ toZ w64 (c .before .args .bound)))) (toZ w64 (ofZ w64 (c .before .args .x))) ≡ leZ (pos 0 -ℤ pos (c .before .args .bound)) (c .before .args .x)
-test-is c = ap₂ leZ (sub-is {a = pos 0} refl (most-is (c .before)) (least-fits (c .before .args .bound) (omega arith))) (toZ-ofZ (c .before .fits .x))
+    → leZ (toZ w64 (ofZ w64 (pos 0 -ℤ toZ w64 (c .before .args .bound)))) (toZ w64 (ofZ w64 (c .before .args .x))) ≡ leZ (negℤ (pos (c .before .args .bound))) (c .before .args .x)
+test-is c =
+    let b = c .before .args .bound in
+    ap₂ leZ (sub-is {a = pos 0} refl (most-is (c .before)) (rw (least-is b) (least-fits b (omega arith))) ∙ least-is b) (toZ-ofZ (c .before .fits .x))
 
 returns-2 : tie.Need-returns-2
 returns-2 c =
     let s = c .before in (
-      λ e. small-within (s .args .bound) (s .args .x) (rw (most-is s, toZ-ofZ (s .fits .x)) at (c .if1 .left)) (sym (test-is c) ∙ e),
-      λ small. test-is c ∙ within-small (s .args .bound) (s .args .x) small,
+      λ e. between-small (s .args .bound) (s .args .x) (rw (most-is s, toZ-ofZ (s .fits .x)) at (c .if1 .left)) (sym (test-is c) ∙ e),
+      λ small. test-is c ∙ small-above (s .args .bound) (s .args .x) small,
     )
 
 pub is-small-spec : {M : Type 1} → statement M

@@ -1,4 +1,4 @@
-use mathlib.Core.Path.{_≡_, refl, sym, ap₂, _∙_}
+use mathlib.Core.Path.{refl, ap₂}
 use borrow.Author.Needs.{needs}
 use lib.Signed.{leZ}
 use mir.Facts.{toZ-ofZ}

@@ -1,5 +1,5 @@
 use Prim.Native.Nat.{_≤_, _<_}
-use mathlib.Core.Path.{_≡_, refl, sym, ap, _∙_}
+use mathlib.Core.Path.{_≡_, refl, sym, _∙_}
 use native.Mathlib.Omega.{arith}
 use Rattle.deque.specs.Rings.{Fits, startsOf, advanced, countBefore}
 use Rattle.deque.proofs.Rings.{ringOf, evict-step, evict-stop, evict-none}

@@ -1,7 +1,6 @@
 use mathlib.Core.Bool.{true, false, false≢true}
 use native.Mathlib.Omega.{arith}
 use borrow.Author.Tests.{leb-true, le-leb}
-use Rattle.deque.specs.Rings.{Fits}
 use Rattle.deque.proofs.ring.Ring.fits.Statement.{statement}
 use Rattle.deque.proofs.ring.Ring.fits.Tie as tie
 use Rattle.deque.proofs.ring.Ring.fits.Reads as reads

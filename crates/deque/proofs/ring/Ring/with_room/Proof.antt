@@ -1,7 +1,6 @@
-use mathlib.Core.Path.{_≡_, ap₂, _∙_}
 use borrow.Author.Needs.{needs}
 use native.Mathlib.Omega.{arith}
-use Rattle.deque.proofs.Rings.{ringOf, room-spare, room-full}
+use Rattle.deque.proofs.Rings.{room-spare, room-full}
 use Rattle.deque.proofs.ring.Ring.with_room.Statement.{statement}
 use Rattle.deque.proofs.ring.Ring.with_room.Tie as tie
 use Rattle.deque.proofs.ring.Ring.with_room.Reads as reads

@@ -1,14 +1,13 @@
-use mathlib.Core.Path.{_≡_, sym, ap, _∙_}
+use mathlib.Core.Path.{_≡_, sym, ap, subst, _∙_}
 use mathlib.Core.List.{map}
 use borrow.Author.Needs.{needs, sfits-of}
 use native.Mathlib.Omega.{arith}
-use lib.IntN.{ℤ, pos}
-use lib.ListN.{getD, drop}
+use lib.ListN.{drop}
 use mir.Syntax.{w64}
 use mir.Val.{toZ, ofZ}
 use mir.Facts.{toZ-ofZ}
-use Rattle.ints.specs.Sizes.{Small}
-use Rattle.ints.proofs.Sizes.{small-fits}
+use Rattle.ints.specs.Sizes.{Small, clamped}
+use Rattle.ints.proofs.Sizes.{small-fits, clamped-small, clamped-same}
 use Rattle.ints.proofs.Round.{add-fits, sub-fits, add-is, sub-is}
 use Rattle.window.specs.Orders.{sum}
 use Rattle.window.specs.Partials.{valueOf}
@@ -75,8 +74,11 @@ lap-is s = toZ-ofZ (lap-fits (s .args .self) (s .pre .0))
 previous-is : (s : tie.Start) → toZ w64 (ofZ w64 (s .args .self .previous)) ≡ s .args .self .previous
 previous-is s = toZ-ofZ (previous-fits (s .args .self) (s .pre .0))
 
+small-is : (c : tie.After-clamp) → Small lapLimit (c .clamp .result)
+small-is c = subst (Small lapLimit) (sym (c .clamp .ensures)) (clamped-small lapLimit (toZ w64 (ofZ w64 (sumAt (start c .args .sums .now) (c .before .before .before .place .result)))))
+
 clamped-is : (c : tie.After-clamp) → toZ w64 (ofZ w64 (c .clamp .result)) ≡ c .clamp .result
-clamped-is c = toZ-ofZ (small-fits lapLimit (c .clamp .result) (omega arith) (c .clamp .ensures .0))
+clamped-is c = toZ-ofZ (small-fits lapLimit (c .clamp .result) (omega arith) (small-is c))
 
 -- within its bound, it is the number of the table
 read-is : (c : tie.After-clamp) → InBounds (start c .args .sums .now) (start c .args .self) → c .clamp .result ≡ sumAt (start c .args .sums .now) (c .before .before .before .place .result)
@@ -85,20 +87,20 @@ read-is c bounds =
     let p = c .before .before .before .place in
     let here = ap (sumAt (a .sums .now)) (p .ensures) in
     let z = toZ-ofZ {w = w64} {z = sumAt (a .sums .now) (p .result)} (sfits-of (c .before .clamp-arg .given)) in
-    c .clamp .ensures .1 (rw (z, here) (bounds (searched c .search .result) (omega arith))) ∙ z
+    c .clamp .ensures ∙ ap (clamped lapLimit) z ∙ clamped-same lapLimit (sumAt (a .sums .now) (p .result)) (rw here (bounds (searched c .search .result) (omega arith)))
 
 sub-since : tie.Need-sub-since
 sub-since c =
     let k = c .before .before in
     let s = start k in
-    sub-fits (lap-is s) (clamped-is k) (since-fits (s .args .self) (s .pre .0) (k .clamp .result) (k .clamp .ensures .0))
+    sub-fits (lap-is s) (clamped-is k) (since-fits (s .args .self) (s .pre .0) (k .clamp .result) (small-is k))
 
 add-result : tie.Need-add-result
 add-result c =
     let k = c .before .before .before .before .before in
     let s = start k in
-    add-fits (sub-is (lap-is s) (clamped-is k) (since-fits (s .args .self) (s .pre .0) (k .clamp .result) (k .clamp .ensures .0))) (previous-is s)
-    (both-fit (s .args .self) (s .pre .0) (k .clamp .result) (k .clamp .ensures .0))
+    add-fits (sub-is (lap-is s) (clamped-is k) (since-fits (s .args .self) (s .pre .0) (k .clamp .result) (small-is k))) (previous-is s)
+    (both-fit (s .args .self) (s .pre .0) (k .clamp .result) (small-is k))
 
 returns-2 : tie.Need-returns-2
 returns-2 c sorted bounds =
@@ -106,7 +108,7 @@ returns-2 c sorted bounds =
     let s = start k in
     let a = s .args in
     let p = k .before .before .before in
-    add-is (sub-is (lap-is s) (clamped-is k) (since-fits (a .self) (s .pre .0) (k .clamp .result) (k .clamp .ensures .0))) (previous-is s) (both-fit (a .self) (s .pre .0) (k .clamp .result) (k .clamp .ensures .0))
+    add-is (sub-is (lap-is s) (clamped-is k) (since-fits (a .self) (s .pre .0) (k .clamp .result) (small-is k))) (previous-is s) (both-fit (a .self) (s .pre .0) (k .clamp .result) (small-is k))
     ∙ sum-behind (a .starts .now) (a .sums .now) (a .self) (searched k .search .result) (omega arith) (p .place .result) (k .clamp .result) (p .place .ensures) (read-is k bounds)
     (rw (k .before .before .place2 .ensures) at (c .before .before .if2 .taken))
     ∙ found (searched k) sorted
@@ -117,7 +119,7 @@ returns-3 c sorted bounds =
     let s = start k in
     let a = s .args in
     let p = k .before .before .before in
-    sub-is (lap-is s) (clamped-is k) (since-fits (a .self) (s .pre .0) (k .clamp .result) (k .clamp .ensures .0))
+    sub-is (lap-is s) (clamped-is k) (since-fits (a .self) (s .pre .0) (k .clamp .result) (small-is k))
     ∙ sum-in-lap (a .starts .now) (a .sums .now) (a .self) (searched k .search .result) (omega arith) (p .place .result) (k .clamp .result) (p .place .ensures) (read-is k bounds)
     (rw (k .before .before .place2 .ensures) at (c .if2 .left))
     ∙ found (searched k) sorted
