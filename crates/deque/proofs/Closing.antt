@@ -12,7 +12,7 @@ use Rattle.window.specs.Partials.{Entry}
 use Rattle.window.specs.Standing.{atMost, oneIfAny, frontOf, evicted}
 use Rattle.window.specs.Invariant.{Sorted}
 use Rattle.deque.specs.declared.ring.Ring.{Ring}
-use Rattle.deque.specs.Rings.{capacity, place, listed, view, startAt, startsOf, advanced, withRoom, grown, countBefore, NeverFalls}
+use Rattle.deque.specs.Rings.{capacity, place, listed, view, entryWith, startAt, startsOf, advanced, withRoom, grown, countBefore, NeverFalls}
 use Rattle.deque.specs.Extremes.{entryAt, entriesOf, trimmed, closedWith, closingCost}
 use Rattle.deque.proofs.Listed.{listed-cong, listed-front, listed-back, length-listed, listed-drop, listed-map}
 use Rattle.deque.proofs.Rings.{ringOf, view-advanced, evicted-count, sorted-starts, view-pushed, newest-more}
@@ -117,20 +117,16 @@ module _ {A : Type 0} (content : ℕ → Entry A) (starts : List ℕ) (same : (p
 
 -- ---- on tables of starts and values
 
--- the entry of a partial that closes
-abbrev pub newEntry : ℕ → ℤ → Entry ℤ
-newEntry s v = record { start = s; value = v }
-
 module _ (below : ℤ → ℤ → Bool) (starts : List ℕ) (values : List ℤ) (r : Ring) (h s : ℕ) (v : ℤ) (kept : Ring) (left : ℕ) (few : left ≤ capacity)
-    (evict : kept ≡ advanced (countBefore h (startsOf starts r)) r) (trim : entriesOf starts values (ringOf (kept .head) left) ≡ trimmed below (newEntry s v) (entriesOf starts values kept)) where
+    (evict : kept ≡ advanced (countBefore h (startsOf starts r)) r) (trim : entriesOf starts values (ringOf (kept .head) left) ≡ trimmed below (entryWith s v) (entriesOf starts values kept)) where
   -- the view after the closing: the new entry is stored at place q
   pub closed-tables : (ring₁ : Ring) (starts₁ : List ℕ) (q : ℕ) (v₁ : ℤ) → capacity ≤ length starts → capacity ≤ length values
       → ring₁ ≡ grown (withRoom (ringOf (kept .head) left)) → q ≡ place (withRoom (ringOf (kept .head) left) .head) (withRoom (ringOf (kept .head) left) .len)
       → starts₁ ≡ set starts q s → v₁ ≡ v
-      → entriesOf starts₁ (set values q v₁) ring₁ ≡ closedWith below (newEntry s v) h (entriesOf starts values r)
+      → entriesOf starts₁ (set values q v₁) ring₁ ≡ closedWith below (entryWith s v) h (entriesOf starts values r)
   closed-tables ring₁ starts₁ q v₁ long wide er eq es ev =
       rw (er, es, ev)
-      (closed-view (entryAt starts values) starts (λ p. refl) r below (newEntry s v) h kept left evict trim (entryAt (set starts q s) (set values q v)) room refl
+      (closed-view (entryAt starts values) starts (λ p. refl) r below (entryWith s v) h kept left evict trim (entryAt (set starts q s) (set values q v)) room refl
       (entry-other q (room .head) (room .len) eq starts values s v (omega arith)) (entry-same q (room .head) (room .len) eq starts values s v long wide))
     where
       room : Ring

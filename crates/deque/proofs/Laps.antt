@@ -21,7 +21,7 @@ use Rattle.window.specs.Invariant.{Sorted}
 use Rattle.window.proofs.Lists.{le-cases}
 use Rattle.deque.specs.declared.ring.Ring.{Ring}
 use Rattle.deque.specs.declared.sums.Sums.{Sums}
-use Rattle.deque.specs.Rings.{capacity, place, Fits, listed, startAt, startsOf, advanced, withRoom, countBefore, NeverFalls, newest}
+use Rattle.deque.specs.Rings.{capacity, place, Fits, listed, entryWith, startAt, startsOf, advanced, withRoom, countBefore, NeverFalls, BeyondKept, newest}
 use Rattle.deque.specs.Sums.{sumAt, newestPlace, lapBehind, sumFromPlace, sumFrom, partialAt, partialsOf, sumLimit, lapLimit, FitsSums, InBounds}
 use Rattle.deque.proofs.Listed.{listed-cong, length-listed, listed-drop, listed-more, listed-map}
 use Rattle.deque.proofs.Rings.{count-le, evicted-count, sorted-starts, newest-more}
@@ -54,8 +54,8 @@ shifted a b c = ext _ _ (omega (arith, bal-sub (a +ℤ c) (b +ℤ c), bal-add a 
 -- ---- the cases of the definitions
 
 -- two entries are equal by their parts
-same-entry : {a b : ℕ} {x y : ℤ} → a ≡ b → x ≡ y → _≡_ {A = Entry ℤ} (record { start = a; value = x }) (record { start = b; value = y })
-same-entry e f = ap₂ (λ (c : ℕ) (z : ℤ). record { start = c; value = z }) e f
+same-entry : {a b : ℕ} {x y : ℤ} → a ≡ b → x ≡ y → entryWith a x ≡ entryWith b y
+same-entry e f = ap₂ entryWith e f
 
 -- a place that is not behind the newest does not belong to the lap before
 not-behind : (s : Sums) (p : ℕ) → p ≤ newestPlace s → lapBehind s p ≡ pos 0
@@ -249,7 +249,7 @@ module _ {sums sums₁ : List ℤ} {s s₁ : Sums} {q : ℕ} {v x : ℤ} (c : Pu
 
   -- the ring holds the partials that it held, and then the new one
   pub pushed-partials : (starts starts₁ : List ℕ) (start : ℕ) → capacity ≤ length starts → starts₁ ≡ set starts q start
-      → partialsOf starts₁ sums₁ s₁ ≡ partialsOf starts sums s ++ (record { start = start; value = x } ∷ [])
+      → partialsOf starts₁ sums₁ s₁ ≡ partialsOf starts sums s ++ (entryWith start x ∷ [])
   pushed-partials starts starts₁ start long e =
       ap (λ n. listed n (partialAt starts₁ sums₁ s₁)) (c .len)
       ∙ listed-more (s .ring .len) (partialAt starts₁ sums₁ s₁)
@@ -328,6 +328,13 @@ partials-evicted starts sums s h k e =
 pub partials-rising : (starts : List ℕ) (sums : List ℤ) (s : Sums) → Sorted (partialsOf starts sums s) → NeverFalls (startsOf starts (s .ring))
 partials-rising starts sums s p = subst NeverFalls (partials-starts starts sums s) (sorted-starts (partialsOf starts sums s) p)
 
+-- what the closing step ensures of the tables and the state before and after, for a partial that starts at `start` with the sum x
+abbrev pub Closes : (starts starts₁ : List ℕ) (sums sums₁ : List ℤ) (s s₁ : Sums) (h start : ℕ) (x : ℤ) → Type 0
+Closes starts starts₁ sums sums₁ s s₁ h start x =
+    FitsSums s₁
+    × ((partialsOf starts₁ sums₁ s₁ ≡ newest capacity (evicted h (partialsOf starts sums s) ++ (entryWith start x ∷ [])))
+    × ((InBounds sums s → InBounds sums₁ s₁) × (BeyondKept starts starts₁ × BeyondKept sums sums₁)))
+
 -- `kept` is the ring after eviction, and `room` that with room for one more
 module _ (starts : List ℕ) (s : Sums) (h : ℕ) (kept room : Ring) (evict : kept ≡ advanced (countBefore h (startsOf starts (s .ring))) (s .ring))
     (spare : room ≡ withRoom kept) where
@@ -354,20 +361,16 @@ module _ (starts : List ℕ) (s : Sums) (h : ℕ) (kept room : Ring) (evict : ke
   -- with the new entry: all of it where there is room, and else without the oldest
   pub closed-partials : {sums sums₁ : List ℤ} {s₁ : Sums} {q : ℕ} {v x : ℤ} → Pushed sums sums₁ (onRing room s) s₁ q v x
       → (starts₁ : List ℕ) (start : ℕ) → capacity ≤ length starts → starts₁ ≡ set starts q start
-      → partialsOf starts₁ sums₁ s₁ ≡ newest capacity (evicted h (partialsOf starts sums s) ++ (record { start = start; value = x } ∷ []))
+      → partialsOf starts₁ sums₁ s₁ ≡ newest capacity (evicted h (partialsOf starts sums s) ++ (entryWith start x ∷ []))
   closed-partials {sums} {sums₁} {s₁} {q} {v} {x} c starts₁ start long e =
       pushed-partials c starts starts₁ start long e
-      ∙ ap (λ (es : List (Entry ℤ)). es ++ (record { start = start; value = x } ∷ []))
+      ∙ ap (λ (es : List (Entry ℤ)). es ++ (entryWith start x ∷ []))
       (evicted-partials (onRing kept s) room (kept .len - 4095) spare-within spare starts sums ∙ ap₂ drop (ap (λ (n : ℕ). n - 4095) (kept-length sums)) (kept-partials sums))
-      ∙ sym (newest-more (evicted h (partialsOf starts sums s)) (record { start = start; value = x }))
+      ∙ sym (newest-more (evicted h (partialsOf starts sums s)) (entryWith start x))
 
   -- all that the closing step ensures
   pub closed-all : {sums sums₁ : List ℤ} {s₁ : Sums} {q : ℕ} {v x : ℤ} → FitsSums s → Small sumLimit x → Pushed sums sums₁ (onRing room s) s₁ q v x
-      → (starts₁ : List ℕ) (start : ℕ) → capacity ≤ length starts → starts₁ ≡ set starts q start
-      → FitsSums s₁
-      × ((partialsOf starts₁ sums₁ s₁ ≡ newest capacity (evicted h (partialsOf starts sums s) ++ (record { start = start; value = x } ∷ [])))
-      × ((InBounds sums s → InBounds sums₁ s₁)
-      × ((drop capacity starts₁ ≡ drop capacity starts) × (drop capacity sums₁ ≡ drop capacity sums))))
+      → (starts₁ : List ℕ) (start : ℕ) → capacity ≤ length starts → starts₁ ≡ set starts q start → Closes starts starts₁ sums sums₁ s s₁ h start x
   closed-all {sums} {sums₁} {s₁} {q} {v} {x} f m c starts₁ start long e = (
     pushed-fits c (ready-fits f) m,
     (

@@ -5,10 +5,9 @@ use mathlib.Core.Path.{_≡_}
 use mathlib.Core.List.{List}
 use native.Mathlib.Omega.{arith}
 use lib.IntN.{ℤ, pos}
-use lib.ListN.{length, getD, set, drop}
+use lib.ListN.{length, getD, set}
 use lib.Seq.{getD-set-same, getD-set-other, drop-set-lt}
-use Rattle.window.specs.Partials.{Entry}
-use Rattle.deque.specs.Rings.{capacity, place}
+use Rattle.deque.specs.Rings.{capacity, place, entryWith, BeyondKept}
 use Rattle.deque.specs.Extremes.{entryAt}
 
 module _ (q h n : ℕ) (here : q ≡ place h n) where
@@ -22,7 +21,7 @@ module _ (q h n : ℕ) (here : q ≡ place h n) where
     store-same d long = rw here (getD-set-same t (place h n) a d (omega arith))
 
     -- what lies beyond the ring is untouched
-    pub store-beyond : drop capacity (set t q a) ≡ drop capacity t
+    pub store-beyond : BeyondKept t (set t q a)
     store-beyond = drop-set-lt capacity t q a (omega arith)
 
   module _ (starts : List ℕ) (values : List ℤ) (s : ℕ) (v : ℤ) where
@@ -30,5 +29,5 @@ module _ (q h n : ℕ) (here : q ≡ place h n) where
     pub entry-other : n < capacity → (j : ℕ) → j < n → entryAt (set starts q s) (set values q v) (place h j) ≡ entryAt starts values (place h j)
     entry-other room j l = rw (store-other starts s 0 room j l, store-other values v (pos 0) room j l)
 
-    pub entry-same : capacity ≤ length starts → capacity ≤ length values → _≡_ {A = Entry ℤ} (entryAt (set starts q s) (set values q v) (place h n)) (record { start = s; value = v })
+    pub entry-same : capacity ≤ length starts → capacity ≤ length values → entryAt (set starts q s) (set values q v) (place h n) ≡ entryWith s v
     entry-same long wide = rw (store-same starts s 0 long, store-same values v (pos 0) wide)

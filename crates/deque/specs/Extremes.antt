@@ -13,7 +13,7 @@ use Rattle.window.specs.Standing.{atMost, oneIfAny, evicted}
 use Rattle.deque.specs.declared.compare.Extreme.{Extreme}
 use Rattle.deque.specs.declared.compare.Extreme.the-variants.{Maximum, Minimum}
 use Rattle.deque.specs.declared.ring.Ring.{Ring}
-use Rattle.deque.specs.Rings.{capacity, view, startAt, newest}
+use Rattle.deque.specs.Rings.{capacity, view, entryWith, startAt, newest}
 
 -- the order of maxima is "at most", that of minima "at least"
 abbrev pub orderOf : Extreme → ℤ → ℤ → Bool
@@ -22,7 +22,7 @@ orderOf Minimum = geZ
 
 -- what stands at a place of the tables of starts and values
 abbrev pub entryAt : List ℕ → List ℤ → ℕ → Entry ℤ
-entryAt starts values p = record { start = startAt starts p; value = getD values p (pos 0) }
+entryAt starts values p = entryWith (startAt starts p) (getD values p (pos 0))
 
 -- the entries that a ring holds on tables of starts and values, oldest first
 abbrev pub entriesOf : List ℕ → List ℤ → Ring → List (Entry ℤ)

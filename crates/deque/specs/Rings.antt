@@ -1,11 +1,12 @@
 -- A ring over the first 4,096 places of lent tables (document 01, "The board"), and the list of entries that it holds.
 -- Assumes nothing.
 use Prim.Native.Nat.{ℕ, zero, suc, _+_, _-_, _%_, _≤_, _<_}
+use mathlib.Core.Path.{_≡_}
 use mathlib.Core.Bool.{cond}
 use mathlib.Core.List.{List, [], _∷_}
 use lib.ListN.{length, getD, drop}
 use Rattle.window.specs.Lists.{Each}
-use Rattle.window.specs.Partials.{live}
+use Rattle.window.specs.Partials.{Entry, live}
 use Rattle.deque.specs.declared.ring.Ring.{Ring}
 
 -- each table is used as a ring over its first 4,096 places
@@ -29,6 +30,10 @@ listed (suc n) f = f 0 ∷ listed n (λ j. f (suc j))
 -- the view of a ring: what stands at the places of its entries, oldest first
 abbrev pub view : {A : Type 0} → (ℕ → A) → Ring → List A
 view content r = listed (r .len) (λ j. content (place (r .head) j))
+
+-- an entry from its start and its value
+abbrev pub entryWith : {A : Type 0} → ℕ → A → Entry A
+entryWith s v = record { start = s; value = v }
 
 -- the start that stands at a place of the table of starts
 abbrev pub startAt : List ℕ → ℕ → ℕ
@@ -61,6 +66,10 @@ countBefore h (s ∷ ss) = cond (live h s) 0 (suc (countBefore h ss))
 abbrev pub NeverFalls : List ℕ → Type 0
 NeverFalls [] = Unit {0}
 NeverFalls (s ∷ ss) = Each (λ (t : ℕ). s ≤ t) ss × NeverFalls ss
+
+-- what stands beyond the first 4,096 places of a table is as it was
+abbrev pub BeyondKept : {A : Type 0} → List A → List A → Type 0
+BeyondKept before after = drop capacity after ≡ drop capacity before
 
 -- the newest n of a list
 abbrev pub newest : {A : Type 0} → ℕ → List A → List A

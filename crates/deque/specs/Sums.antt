@@ -10,7 +10,7 @@ use lib.ListN.{getD}
 use Rattle.ints.specs.Sizes.{Small}
 use Rattle.window.specs.Partials.{Entry}
 use Rattle.deque.specs.declared.sums.Sums.{Sums}
-use Rattle.deque.specs.Rings.{capacity, place, Fits, listed, startAt}
+use Rattle.deque.specs.Rings.{capacity, place, Fits, listed, entryWith, startAt}
 
 -- ---- the entries
 
@@ -36,11 +36,7 @@ sumFrom sums s j = cond (ltb j (s .ring .len)) (sumFromPlace sums s (place (s .r
 
 -- entry j: its start, with the sum of its readings
 abbrev pub partialAt : List ℕ → List ℤ → Sums → ℕ → Entry ℤ
-partialAt starts sums s j =
-    record {
-      start = startAt starts (place (s .ring .head) j);
-      value = sumFrom sums s j -ℤ sumFrom sums s (suc j);
-    }
+partialAt starts sums s j = entryWith (startAt starts (place (s .ring .head) j)) (sumFrom sums s j -ℤ sumFrom sums s (suc j))
 
 -- the partials that the ring holds, oldest first
 abbrev pub partialsOf : List ℕ → List ℤ → Sums → List (Entry ℤ)

@@ -7,10 +7,10 @@ ghost use mathlib.Core.Path.{_≡_};
 ghost use mathlib.Core.List.{List, []};
 ghost use Prim.Native.Nat.{ℕ, _+_, _<_, _≤_, _^_};
 ghost use lib.IntN.{ℤ, pos};
-ghost use lib.ListN.{length, drop};
+ghost use lib.ListN.{length};
 ghost use Rattle.window.specs.Standing.{evicted, frontOf};
 ghost use Rattle.window.specs.Invariant.{Sorted};
-ghost use Rattle.deque.specs.Rings.{capacity, Fits};
+ghost use Rattle.deque.specs.Rings.{capacity, Fits, entryWith, BeyondKept};
 ghost use Rattle.deque.specs.Extremes.{orderOf, entriesOf, closedWith, closingCost};
 
 // The ring of the entries, and the total of the comparisons made (document 01: M or N).
@@ -45,9 +45,11 @@ impl Deque {
     ) -> Deque
         requires { ⌜ Fits (self .ring) × (capacity ≤ length (now starts)) × (capacity ≤ length (now values)) × (self .comparisons + capacity < 2 ^ 64) ⌝ }
         ensures fits { λ r. ⌜ Fits (r .ring) ⌝ }
-        ensures entries { λ r. ⌜ entriesOf (now (starts .exit)) (now (values .exit)) (r .ring) ≡ closedWith (orderOf extreme) (record { start = start; value = value }) horizon (entriesOf (now (starts .entry)) (now (values .entry)) (self .ring)) ⌝ }
-        ensures cost { λ r. ⌜ r .comparisons ≡ self .comparisons + closingCost (orderOf extreme) (record { start = start; value = value }) horizon (entriesOf (now (starts .entry)) (now (values .entry)) (self .ring)) ⌝ }
-        ensures beyond { λ r. ⌜ (drop capacity (now (starts .exit)) ≡ drop capacity (now (starts .entry))) × (drop capacity (now (values .exit)) ≡ drop capacity (now (values .entry))) ⌝ }
+        ensures entries { λ r. ⌜ entriesOf (now (starts .exit)) (now (values .exit)) (r .ring)
+            ≡ closedWith (orderOf extreme) (entryWith start value) horizon (entriesOf (now (starts .entry)) (now (values .entry)) (self .ring)) ⌝ }
+        ensures cost { λ r. ⌜ r .comparisons
+            ≡ self .comparisons + closingCost (orderOf extreme) (entryWith start value) horizon (entriesOf (now (starts .entry)) (now (values .entry)) (self .ring)) ⌝ }
+        ensures beyond { λ r. ⌜ BeyondKept (now (starts .entry)) (now (starts .exit)) × BeyondKept (now (values .entry)) (now (values .exit)) ⌝ }
     {
         let ring = self.ring;
         let kept = ring.evict(starts, horizon);
@@ -82,7 +84,8 @@ impl Deque {
     // The value of the first entry that starts at `from` or later: the extreme of the readings since then. 0 where there is none.
     pub fn extreme_from(self, starts: &[Count], values: &[i32], from: Count) -> i32
         requires { ⌜ Fits (self .ring) × (capacity ≤ length (now starts)) × (capacity ≤ length (now values)) ⌝ }
-        ensures { λ r. ⌜ (Sorted (entriesOf (now (starts .entry)) (now (values .entry)) (self .ring)) → r ≡ frontOf (pos 0) (evicted from (entriesOf (now (starts .entry)) (now (values .entry)) (self .ring)))) ⌝ }
+        ensures { λ r. ⌜ (Sorted (entriesOf (now (starts .entry)) (now (values .entry)) (self .ring))
+            → r ≡ frontOf (pos 0) (evicted from (entriesOf (now (starts .entry)) (now (values .entry)) (self .ring)))) ⌝ }
     {
         let ring = self.ring;
         let first = ring.search(starts, from);

@@ -112,7 +112,8 @@ impl Ring {
     pub(crate) fn search(self, starts: &[Count], from: Count) -> usize
         requires { ⌜ Fits self × (capacity ≤ length (now starts)) ⌝ }
         ensures within { λ r. ⌜ r ≤ self .len ⌝ }
-        ensures found { λ r. ⌜ (NeverFalls (startsOf (now (starts .entry)) self) → r ≡ countBefore from (startsOf (now (starts .entry)) self)) ⌝ }
+        ensures found { λ r. ⌜ (NeverFalls (startsOf (now (starts .entry)) self)
+            → r ≡ countBefore from (startsOf (now (starts .entry)) self)) ⌝ }
     {
         let mut low = 0;
         let mut high = self.len;

@@ -8,13 +8,13 @@ ghost use mathlib.Core.Bool.{true};
 ghost use mathlib.Core.List.{List, [], _∷_, _++_, map};
 ghost use Prim.Native.Nat.{ℕ, _*_, _<_, _≤_};
 ghost use lib.IntN.{ℤ};
-ghost use lib.ListN.{length, drop};
+ghost use lib.ListN.{length};
 ghost use Rattle.ints.specs.Sizes.{Small};
 ghost use Rattle.window.specs.Orders.{sum};
 ghost use Rattle.window.specs.Partials.{valueOf};
 ghost use Rattle.window.specs.Standing.{evicted};
 ghost use Rattle.window.specs.Invariant.{Sorted};
-ghost use Rattle.deque.specs.Rings.{capacity, newest};
+ghost use Rattle.deque.specs.Rings.{capacity, entryWith, BeyondKept, newest};
 ghost use Rattle.deque.specs.Sums.{partialsOf, sumLimit, lapPlaces, FitsSums, InBounds};
 
 // The greatest size of a partial's sum: 2^47, the sum of 65,536 readings.
@@ -83,9 +83,10 @@ impl Sums {
     ) -> Sums
         requires { ⌜ FitsSums self × (capacity ≤ length (now starts)) × (capacity ≤ length (now sums)) × Small sumLimit sum ⌝ }
         ensures fits { λ r. ⌜ FitsSums r ⌝ }
-        ensures entries { λ r. ⌜ partialsOf (now (starts .exit)) (now (sums .exit)) r ≡ newest capacity (evicted horizon (partialsOf (now (starts .entry)) (now (sums .entry)) self) ++ (record { start = start; value = sum } ∷ [])) ⌝ }
+        ensures entries { λ r. ⌜ partialsOf (now (starts .exit)) (now (sums .exit)) r
+            ≡ newest capacity (evicted horizon (partialsOf (now (starts .entry)) (now (sums .entry)) self) ++ (entryWith start sum ∷ [])) ⌝ }
         ensures bounds { λ r. ⌜ (InBounds (now (sums .entry)) self → InBounds (now (sums .exit)) r) ⌝ }
-        ensures beyond { λ r. ⌜ (drop capacity (now (starts .exit)) ≡ drop capacity (now (starts .entry))) × (drop capacity (now (sums .exit)) ≡ drop capacity (now (sums .entry))) ⌝ }
+        ensures beyond { λ r. ⌜ BeyondKept (now (starts .entry)) (now (starts .exit)) × BeyondKept (now (sums .entry)) (now (sums .exit)) ⌝ }
     {
         let ring = self.ring;
         let kept = ring.evict(starts, horizon);
@@ -113,7 +114,9 @@ impl Sums {
     // The sum of the partials that start at `from` or later.
     pub fn sum_from(self, starts: &[Count], sums: &[i64], from: Count) -> i64
         requires { ⌜ FitsSums self × (capacity ≤ length (now starts)) × (capacity ≤ length (now sums)) ⌝ }
-        ensures { λ r. ⌜ (Sorted (partialsOf (now (starts .entry)) (now (sums .entry)) self) → InBounds (now (sums .entry)) self → r ≡ sum (map valueOf (evicted from (partialsOf (now (starts .entry)) (now (sums .entry)) self)))) ⌝ }
+        ensures { λ r. ⌜ (Sorted (partialsOf (now (starts .entry)) (now (sums .entry)) self)
+            → InBounds (now (sums .entry)) self
+            → r ≡ sum (map valueOf (evicted from (partialsOf (now (starts .entry)) (now (sums .entry)) self)))) ⌝ }
     {
         let ring = self.ring;
         let first = ring.search(starts, from);

@@ -12,11 +12,11 @@ use mir.Val.{toZ, ofZ}
 use mir.Facts.{toZ-ofZ}
 use Rattle.window.specs.Partials.{Entry}
 use Rattle.window.specs.Standing.{atMost}
-use Rattle.deque.specs.Rings.{capacity, place, listed}
+use Rattle.deque.specs.Rings.{capacity, place, listed, entryWith}
 use Rattle.deque.specs.Extremes.{orderOf, entryAt, entriesOf, trimmed}
 use Rattle.deque.proofs.Rings.{ringOf}
 use Rattle.deque.proofs.Stores.{store-beyond}
-use Rattle.deque.proofs.Closing.{newEntry, trim-step, trim-stop, trim-none, cost-is, closed-tables}
+use Rattle.deque.proofs.Closing.{trim-step, trim-stop, trim-none, cost-is, closed-tables}
 use Rattle.deque.proofs.extremes.Deque.close.Statement.{statement}
 use Rattle.deque.proofs.extremes.Deque.close.Tie as tie
 use Rattle.deque.proofs.extremes.Deque.close.Reads as reads
@@ -29,7 +29,7 @@ use Rattle.deque.proofs.ring.Ring.push.Reads as push-reads
 abbrev Inv-loop : tie.InvT-loop
 Inv-loop extreme starts values horizon start value kept len₀ total₀ len total =
     (len ≤ kept .len) × (total ≡ total₀ + (kept .len - len))
-    × (trimmed (orderOf extreme) (newEntry start (toZ w32 value)) (entriesOf starts values (ringOf (kept .head) len)) ≡ trimmed (orderOf extreme) (newEntry start (toZ w32 value)) (entriesOf starts values kept))
+    × (trimmed (orderOf extreme) (entryWith start (toZ w32 value)) (entriesOf starts values (ringOf (kept .head) len)) ≡ trimmed (orderOf extreme) (entryWith start (toZ w32 value)) (entriesOf starts values kept))
 
 abbrev μ-loop : tie.MeasureT-loop
 μ-loop extreme starts values horizon start value kept len₀ total₀ len total = len
@@ -71,7 +71,7 @@ entryOf a j = entryAt (start a .args .starts .now) (start a .args .values .now) 
 
 -- the entry that closes
 abbrev new : tie.At-loop Inv-loop μ-loop → Entry ℤ
-new a = newEntry (start a .args .start) (start a .args .value)
+new a = entryWith (start a .args .start) (start a .args .value)
 
 abbrev order : tie.At-loop Inv-loop μ-loop → ℤ → ℤ → Bool
 order a = orderOf (start a .args .extreme)
@@ -167,7 +167,7 @@ returns c =
         closed-tables o (a .starts .now) (a .values .now) (a .self .ring) (a .horizon) (a .start) (a .value) (e .result) (j .if1 .left) (omega (arith, left-le j)) (e .ensures .1) (left-is j)
             (p .result .ring) (p .last .1 .0) (p .result .place) (toZ w32 (ofZ w32 (a .value))) (omega arith) (omega arith) (p .ensures .1 .0 .0) (p .ensures .1 .0 .1) (p .ensures .1 .1) (toZ-ofZ (s .fits .value)),
         (
-          cost-is (entryAt (a .starts .now) (a .values .now)) (a .starts .now) (λ q. refl) (a .self .ring) o (newEntry (a .start) (a .value)) (a .horizon) (e .result) (j .if1 .left) (e .ensures .1) (left-is j)
+          cost-is (entryAt (a .starts .now) (a .values .now)) (a .starts .now) (λ q. refl) (a .self .ring) o (entryWith (a .start) (a .value)) (a .horizon) (e .result) (j .if1 .left) (e .ensures .1) (left-is j)
               (j .if1 .total) (a .self .comparisons) (total-is j),
           (
             ap (drop capacity) (p .ensures .1 .1) ∙ store-beyond (p .result .place) _ _ (p .ensures .1 .0 .1) (a .starts .now) (a .start),

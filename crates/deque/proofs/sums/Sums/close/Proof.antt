@@ -1,17 +1,15 @@
-use mathlib.Core.Path.{_≡_, refl, ap}
-use mathlib.Core.List.{List, [], _∷_, _++_}
+use mathlib.Core.Path.{refl, ap}
+use mathlib.Core.List.{List}
 use borrow.Author.Needs.{needs}
 use native.Mathlib.Omega.{arith}
 use lib.IntN.{ℤ, pos}
-use lib.ListN.{set, drop}
+use lib.ListN.{set}
 use mir.Facts.{toZ-ofZ}
 use Rattle.ints.proofs.Round.{add-fits, add-is}
-use Rattle.window.specs.Standing.{evicted}
 use Rattle.deque.specs.declared.ring.Ring.{Ring}
 use Rattle.deque.specs.declared.sums.Sums.{Sums}
-use Rattle.deque.specs.Rings.{capacity, withRoom, newest}
-use Rattle.deque.specs.Sums.{partialsOf, FitsSums, InBounds}
-use Rattle.deque.proofs.Laps.{Turned, onward, anew, Pushed, onRing, lap-fits, previous-fits, more-fits, closed-all}
+use Rattle.deque.specs.Rings.{withRoom}
+use Rattle.deque.proofs.Laps.{Turned, onward, anew, Pushed, onRing, Closes, lap-fits, previous-fits, more-fits, closed-all}
 use Rattle.deque.proofs.sums.Sums.close.Statement.{statement}
 use Rattle.deque.proofs.sums.Sums.close.Tie as tie
 use Rattle.deque.proofs.sums.Sums.close.Reads as reads
@@ -55,11 +53,8 @@ sumsAfter c v = set (start c .args .sums .now) (c .push .result .place) v
 
 -- a push that turns the laps rightly is all that is asked
 closed : (c : tie.After-push) (v lap previous : ℤ) → Turned (onRing (room c) (start c .args .self)) (after c lap previous) (c .push .result .place) v (start c .args .sum)
-    → FitsSums (after c lap previous)
-    × ((partialsOf (c .push .last .1 .0) (sumsAfter c v) (after c lap previous)
-    ≡ newest capacity (evicted (start c .args .horizon) (partialsOf (start c .args .starts .now) (start c .args .sums .now) (start c .args .self)) ++ (record { start = start c .args .start; value = start c .args .sum } ∷ [])))
-    × ((InBounds (start c .args .sums .now) (start c .args .self) → InBounds (sumsAfter c v) (after c lap previous))
-    × ((drop capacity (c .push .last .1 .0) ≡ drop capacity (start c .args .starts .now)) × (drop capacity (sumsAfter c v) ≡ drop capacity (start c .args .sums .now)))))
+    → Closes (start c .args .starts .now) (c .push .last .1 .0) (start c .args .sums .now) (sumsAfter c v) (start c .args .self) (after c lap previous)
+    (start c .args .horizon) (start c .args .start) (start c .args .sum)
 closed c v lap previous t =
     let s = start c in
     let a = s .args in
