@@ -1,14 +1,16 @@
 -- The laws of a bound on the size of a number: how it is found, kept and tested.
 -- Assumes nothing.
 use Prim.Native.Nat.{ℕ, _+_, _<_, _≤_}
-use mathlib.Core.Path.{_≡_, refl}
+use mathlib.Core.Path.{_≡_, refl, _∙_}
 use mathlib.Core.Bool.{Bool, true, false, cond}
 use native.Mathlib.Omega.{arith}
 use lib.IntN.{ℤ, pos, negsuc, negℤ, _+ℤ_, _-ℤ_, +ℤ-idl}
 use lib.Signed.{leZ, ltZ}
 use mir.Syntax.{w32, w64}
-use mir.Val.{SFits}
+use mir.Val.{SFits, toZ, ofZ}
+use mir.Facts.{toZ-pos}
 use Rattle.ints.specs.Sizes.{up, dn, Small, clamped}
+use Rattle.ints.proofs.Round.{sub-fits, sub-is}
 use Rattle.ints.proofs.Balance.{bal-add, bal-neg, bal-sub, range32, lt-of, ge-of, le-of, to-le, fits64}
 
 -- one of up and dn is 0, so a bound on their difference bounds each
@@ -34,19 +36,27 @@ small-reading z f = let r = range32 z f in record { above = omega arith; below =
 pub small-fits : (b : ℕ) (z : ℤ) → b < 9223372036854775808 → Small b z → SFits w64 z
 small-fits b z l s = fits64 z (omega arith) (omega arith)
 
--- ---- the ends of a bound
-
--- 0 - b, as the code has it
-pub least-is : (b : ℕ) → pos 0 -ℤ pos b ≡ negℤ (pos b)
-least-is b = +ℤ-idl (negℤ (pos b))
+-- ---- the ends of a bound, as the machine has them
 
 module _ (b : ℕ) (l : b < 9223372036854775808) where
-  -- the greatest and the least number within the bound fit
+  -- the greatest number within it
   pub most-fits : SFits w64 (pos b)
   most-fits = fits64 (pos b) (omega arith) (omega arith)
 
-  pub least-fits : SFits w64 (negℤ (pos b))
-  least-fits = fits64 (negℤ (pos b)) (omega (arith, bal-neg (pos b))) (omega (arith, bal-neg (pos b)))
+  pub most-is : toZ w64 b ≡ pos b
+  most-is = toZ-pos w64 (omega arith)
+
+  -- the least one
+  less-fits : SFits w64 (pos 0 -ℤ pos b)
+  less-fits = fits64 (pos 0 -ℤ pos b) (omega (arith, bal-sub (pos 0) (pos b))) (omega (arith, bal-sub (pos 0) (pos b)))
+
+  pub least-fits : SFits w64 (pos 0 -ℤ toZ w64 b)
+  least-fits = sub-fits {a = pos 0} refl most-is less-fits
+
+  pub least-is : toZ w64 (ofZ w64 (pos 0 -ℤ toZ w64 b)) ≡ negℤ (pos b)
+  least-is = sub-is {a = pos 0} refl most-is less-fits ∙ +ℤ-idl (negℤ (pos b))
+
+-- ---- what is small
 
 module _ (b : ℕ) (z : ℤ) where
   -- a number above the greatest is not small
