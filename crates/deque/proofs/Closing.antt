@@ -112,7 +112,7 @@ module _ {A : Type 0} (content : ℕ → Entry A) (starts : List ℕ) (same : (p
     closed-view after room e others new =
         view-pushed content after y (room .head) (room .len) others new
         ∙ ap (λ (es : List (Entry A)). es ++ (y ∷ []))
-        (ap (view content) e ∙ view-advanced content (left - 4095) (ringOf (kept .head) left) ∙ ap₂ drop (ap (λ (k : ℕ). k - 4095) left-length) left-view)
+        (ap (view content) e ∙ view-advanced content (left + 1 - capacity) (ringOf (kept .head) left) ∙ ap₂ drop (ap (λ (k : ℕ). k + 1 - capacity) left-length) left-view)
         ∙ sym (newest-more (trimmed below y (evicted h (view content r))) y)
 
 -- ---- on tables of starts and values

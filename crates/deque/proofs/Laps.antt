@@ -341,16 +341,16 @@ module _ (starts : List ℕ) (s : Sums) (h : ℕ) (kept room : Ring) (evict : ke
   count-within : countBefore h (startsOf starts (s .ring)) ≤ s .ring .len
   count-within = omega (arith, count-le h (startsOf starts (s .ring)), length-listed (s .ring .len) (λ j. startAt starts (place (s .ring .head) j)))
 
-  spare-within : kept .len - 4095 ≤ kept .len
+  spare-within : kept .len + 1 - capacity ≤ kept .len
   spare-within = omega arith
 
   -- the state still fits
   pub ready-fits : FitsSums s → FitsSums (onRing room s)
-  ready-fits f = evicted-fits (onRing kept s) room (kept .len - 4095) spare-within spare (evicted-fits s kept _ count-within evict f)
+  ready-fits f = evicted-fits (onRing kept s) room (kept .len + 1 - capacity) spare-within spare (evicted-fits s kept _ count-within evict f)
 
   -- the numbers of the table are still within their bound
   pub ready-bounds : (sums : List ℤ) → InBounds sums s → InBounds sums (onRing room s)
-  ready-bounds sums b = evicted-bounds (onRing kept s) room (kept .len - 4095) spare-within spare sums (evicted-bounds s kept _ count-within evict sums b)
+  ready-bounds sums b = evicted-bounds (onRing kept s) room (kept .len + 1 - capacity) spare-within spare sums (evicted-bounds s kept _ count-within evict sums b)
 
   kept-partials : (sums : List ℤ) → partialsOf starts sums (onRing kept s) ≡ evicted h (partialsOf starts sums s)
   kept-partials sums = evicted-partials s kept _ count-within evict starts sums ∙ partials-evicted starts sums s h _ refl
@@ -365,7 +365,7 @@ module _ (starts : List ℕ) (s : Sums) (h : ℕ) (kept room : Ring) (evict : ke
   closed-partials {sums} {sums₁} {s₁} {q} {v} {x} c starts₁ start long e =
       pushed-partials c starts starts₁ start long e
       ∙ ap (λ (es : List (Entry ℤ)). es ++ (entryWith start x ∷ []))
-      (evicted-partials (onRing kept s) room (kept .len - 4095) spare-within spare starts sums ∙ ap₂ drop (ap (λ (n : ℕ). n - 4095) (kept-length sums)) (kept-partials sums))
+      (evicted-partials (onRing kept s) room (kept .len + 1 - capacity) spare-within spare starts sums ∙ ap₂ drop (ap (λ (n : ℕ). n + 1 - capacity) (kept-length sums)) (kept-partials sums))
       ∙ sym (newest-more (evicted h (partialsOf starts sums s)) (entryWith start x))
 
   -- all that the closing step ensures

@@ -13,7 +13,7 @@ use Rattle.window.specs.Partials.{Entry, live}
 use Rattle.window.specs.Standing.{evicted}
 use Rattle.window.specs.Invariant.{Sorted}
 use Rattle.deque.specs.declared.ring.Ring.{Ring}
-use Rattle.deque.specs.Rings.{capacity, place, Fits, listed, view, startAt, startsOf, advanced, withRoom, grown, countBefore, NeverFalls, newest}
+use Rattle.deque.specs.Rings.{capacity, place, listed, view, startAt, startsOf, advanced, withRoom, grown, countBefore, NeverFalls, newest}
 use Rattle.deque.proofs.Listed.{listed-cong, listed-front, listed-more, listed-drop}
 
 -- the ring that starts at place h and has n entries
@@ -40,11 +40,7 @@ count-le h (s ∷ ss) = go (live h s) (count-le h ss)
     go true l = omega arith
     go false l = omega arith
 
--- advancing keeps a ring usable
-pub advanced-fits : (k : ℕ) (r : Ring) → Fits r → Fits (advanced k r)
-advanced-fits k r f = record { inside = omega arith; few = omega arith }
-
--- without none of them, it is the same
+-- with none of them gone, it is the same
 pub unmoved : (h n : ℕ) → h < capacity → advanced 0 (ringOf h n) ≡ ringOf h n
 unmoved h n hh = ap₂ ringOf at-head whole
   where
@@ -97,20 +93,20 @@ evict-none starts hz h (suc n) hh l = absurd (omega arith)
 pub room-spare : (h n : ℕ) → h < capacity → n < capacity → ringOf h n ≡ withRoom (ringOf h n)
 room-spare h n hh hn = ap₂ ringOf at-head whole
   where
-    at-head : h ≡ (h + (n - 4095)) % 4096
+    at-head : h ≡ (h + (n + 1 - 4096)) % 4096
     at-head = omega arith
 
-    whole : n ≡ n - (n - 4095)
+    whole : n ≡ n - (n + 1 - 4096)
     whole = omega arith
 
 -- a full one loses its oldest
 pub room-full : (h n next : ℕ) → n ≤ capacity → capacity ≤ n → next ≡ place h 1 → ringOf next (n - 1) ≡ withRoom (ringOf h n)
 room-full h n next hn full e = ap₂ ringOf (e ∙ moved) less
   where
-    moved : (h + 1) % 4096 ≡ (h + (n - 4095)) % 4096
+    moved : (h + 1) % 4096 ≡ (h + (n + 1 - 4096)) % 4096
     moved = omega arith
 
-    less : n - 1 ≡ n - (n - 4095)
+    less : n - 1 ≡ n - (n + 1 - 4096)
     less = omega arith
 
 -- ---- the search
@@ -173,8 +169,8 @@ view-pushed {A} before after e h n same new =
     ∙ ap₂ _++_ (listed-cong n (λ j. after (place h j)) (λ j. before (place h j)) same) (ap (λ (x : A). x ∷ []) new)
 
 -- the newest of a list with one more at the end
-pub newest-more : {A : Type 0} (xs : List A) (y : A) → newest capacity (xs ++ (y ∷ [])) ≡ drop (length xs - 4095) xs ++ (y ∷ [])
-newest-more xs y = ap (λ (k : ℕ). drop k (xs ++ (y ∷ []))) less ∙ drop-append-le (length xs - 4095) xs (y ∷ []) (omega arith)
+pub newest-more : {A : Type 0} (xs : List A) (y : A) → newest capacity (xs ++ (y ∷ [])) ≡ drop (length xs + 1 - capacity) xs ++ (y ∷ [])
+newest-more xs y = ap (λ (k : ℕ). drop k (xs ++ (y ∷ []))) less ∙ drop-append-le (length xs + 1 - capacity) xs (y ∷ []) (omega arith)
   where
-    less : length (xs ++ (y ∷ [])) - 4096 ≡ length xs - 4095
+    less : length (xs ++ (y ∷ [])) - 4096 ≡ length xs + 1 - 4096
     less = omega (arith, length-append xs (y ∷ []))

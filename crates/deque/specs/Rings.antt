@@ -51,7 +51,7 @@ advanced k r = record { head = place (r .head) k; len = r .len - k }
 
 -- the ring with room for one entry more: a full one loses its oldest
 abbrev pub withRoom : Ring → Ring
-withRoom r = advanced (r .len - 4095) r
+withRoom r = advanced (r .len + 1 - capacity) r
 
 -- the ring with one entry more, behind the newest
 abbrev pub grown : Ring → Ring

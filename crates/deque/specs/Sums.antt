@@ -54,7 +54,7 @@ lapLimit = capacity * sumLimit
 
 -- how many places of the lap come before place p; where p is 0, the whole lap before it
 abbrev pub lapPlaces : ℕ → ℕ
-lapPlaces p = (p + 4095) % capacity + 1
+lapPlaces p = (p + (capacity - 1)) % capacity + 1
 
 -- what the code asks of the state of the sums, and keeps
 pub record FitsSums (s : Sums) : Type 0 where
