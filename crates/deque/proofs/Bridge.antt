@@ -1,4 +1,4 @@
--- From the rings to the model, for an engine and for every order: what the rings retain of the model's closed partials, and that closings and
+-- From the rings to the model, for an engine and for every order: what the rings hold of the model's closed partials, and that closings and
 -- windows computed from it are those of the model.
 -- Assumes nothing.
 use mathlib.Core.Path.{_≡_, refl, sym, ap, _∙_}
@@ -10,20 +10,40 @@ use native.Mathlib.Omega.{arith}
 use lib.IntN.{ℤ, pos}
 use lib.ListN.{length, length-append, length-map}
 use Rattle.window.specs.declared.query.Query.{Query}
+use Rattle.window.specs.Lists.{Each}
 use Rattle.window.specs.Orders.{Order, sum, extreme}
 use Rattle.window.specs.Queries.{windowStart, horizon}
 use Rattle.window.specs.Partials.{Partial, spanning, Entry, entry, entries, live, partialsFrom, entriesFrom, valueOf}
 use Rattle.window.specs.Standing.{standing, comparisons, frontOf, evicted}
+use Rattle.window.specs.Calls.{IsReading}
 use Rattle.window.specs.Model.{State, count, window, standingAt, closingComparisons}
 use Rattle.window.specs.Invariant.{Ordered, Sorted, FromPartials}
 use Rattle.window.proofs.Lists.{filter-append}
+use Rattle.window.proofs.Orders.{leZ-order, geZ-order}
 use Rattle.window.proofs.Standing.{evicted-from, standing-from, standing-snoc, standing-sorted, standing-le}
-use Rattle.window.proofs.Tiling.{ordered-weaken, ordered-snoc, ordered-sorted, ordered-from, from-from, entries-from, entries-snoc}
+use Rattle.window.proofs.Tiling.{ordered-weaken, ordered-snoc, ordered-sorted, ordered-from, from-from, entries-from, entries-snoc, entries-stable}
 use Rattle.window.proofs.Windows.{from-few}
+use Rattle.window.proofs.Bounds.{sum-bound}
+use Rattle.ints.specs.Sizes.{Small}
+use Rattle.ints.proofs.Sizes.{small-more}
+use Rattle.deque.specs.declared.compare.Extreme.{Extreme}
+use Rattle.deque.specs.declared.compare.Extreme.the-variants.{Maximum, Minimum}
 use Rattle.deque.specs.Rings.{capacity, newest}
-use Rattle.deque.specs.Extremes.{trimmed, closedWith, closingCost}
+use Rattle.deque.specs.Extremes.{orderOf, trimmed, closedWith, closingCost}
+use Rattle.deque.specs.Sums.{sumLimit}
 use Rattle.deque.specs.Retained.{Retained}
 use Rattle.deque.proofs.Trimming.{trimmed-le, trimmed-standing, trim-comparisons}
+
+-- ---- the two orders, and the size of a partial's sum
+
+-- which extreme is kept fixes a total order
+pub extreme-order : (e : Extreme) → Order (orderOf e)
+extreme-order Maximum = leZ-order
+extreme-order Minimum = geZ-order
+
+-- the sum of up to 65,536 readings is within the bound that the rings ask
+pub sum-small : (xs : List ℤ) → Each IsReading xs → length xs ≤ 65536 → Small sumLimit (sum xs)
+sum-small xs h l = small-more _ sumLimit (sum xs) (omega arith) (sum-bound xs h)
 
 -- ---- room
 
@@ -45,7 +65,7 @@ room h ps a n o l k = omega (arith, from-few h 0 ps a o)
 pub retained-none : (h : ℕ) → Retained h [] [] 0
 retained-none h = record { ordered = le-refl 0; live = refl }
 
--- what is retained stays so while readings are taken
+-- what is held stays so while readings are taken
 pub retained-later : (h : ℕ) (ps qs : List Partial) (c d : ℕ) → c ≤ d → Retained h ps qs c → Retained h ps qs d
 retained-later h ps qs c d l r = record { ordered = ordered-weaken 0 qs c d l (r .ordered); live = r .live }
 
@@ -64,6 +84,11 @@ retained-closed h ps a n l o =
   where
     split : (xs : List Partial) → partialsFrom h (xs ++ (spanning a n ∷ [])) ≡ partialsFrom h xs ++ partialsFrom h (spanning a n ∷ [])
     split xs = filter-append (λ (p : Partial). live h (p .start)) xs (spanning a n ∷ [])
+
+-- the entries of what is held do not change with later readings
+pub retained-stable : {R A : Type 0} (f : List R → A) (rs more : List R) (h : ℕ) (ps qs : List Partial) (c : ℕ) → c ≤ length rs → Retained h ps qs c
+    → entries f (rs ++ more) qs ≡ entries f rs qs
+retained-stable f rs more h ps qs c l r = entries-stable f rs more 0 qs (ordered-weaken 0 qs c (length rs) l (r .ordered))
 
 -- ---- a closing, on the partials
 

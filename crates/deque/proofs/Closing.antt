@@ -2,9 +2,9 @@
 -- start: `content` gives the entry at a place of the tables.
 -- Assumes nothing.
 use Prim.Native.Nat.{ℕ, _+_, _-_, _<_, _≤_, min}
-use mathlib.Core.Path.{_≡_, refl, sym, ap, ap₂, _∙_, subst}
+use mathlib.Core.Path.{_≡_, refl, sym, ap, ap₂, _∙_}
 use mathlib.Core.Bool.{Bool, true, false}
-use mathlib.Core.List.{List, [], _∷_, _++_, map}
+use mathlib.Core.List.{List, [], _∷_, _++_}
 use native.Mathlib.Omega.{arith}
 use lib.IntN.{ℤ}
 use lib.ListN.{length, set, drop}
@@ -14,8 +14,8 @@ use Rattle.window.specs.Invariant.{Sorted}
 use Rattle.deque.specs.declared.ring.Ring.{Ring}
 use Rattle.deque.specs.Rings.{capacity, place, listed, view, entryWith, startAt, startsOf, advanced, withRoom, grown, countBefore, NeverFalls}
 use Rattle.deque.specs.Extremes.{entryAt, entriesOf, trimmed, closedWith, closingCost}
-use Rattle.deque.proofs.Listed.{listed-cong, listed-front, listed-back, length-listed, listed-drop, listed-map}
-use Rattle.deque.proofs.Rings.{ringOf, view-advanced, evicted-count, sorted-starts, view-pushed, newest-more}
+use Rattle.deque.proofs.Listed.{listed-none, listed-front, listed-back, length-listed, listed-drop}
+use Rattle.deque.proofs.Rings.{ringOf, view-advanced, listed-rising, listed-evicted, view-pushed, newest-more}
 use Rattle.deque.proofs.Stores.{entry-other, entry-same}
 use Rattle.deque.proofs.Trimming.{trimmed-snoc-drop, trimmed-snoc-keep}
 
@@ -42,31 +42,22 @@ oneIfAny-length (x ∷ xs) = omega arith
 -- ---- a view, by its starts
 
 module _ {A : Type 0} (content : ℕ → Entry A) (starts : List ℕ) (same : (p : ℕ) → content p .start ≡ startAt starts p) (r : Ring) where
-  view-starts : map (λ (e : Entry A). e .start) (view content r) ≡ startsOf starts r
-  view-starts =
-      listed-map (λ (e : Entry A). e .start) (r .len) (λ j. content (place (r .head) j))
-      ∙ listed-cong (r .len) (λ j. content (place (r .head) j) .start) (λ j. startAt starts (place (r .head) j)) (λ j l. same (place (r .head) j))
-
   -- where its entries are sorted, their starts never fall
   pub sorted-view : Sorted (view content r) → NeverFalls (startsOf starts r)
-  sorted-view s = subst NeverFalls view-starts (sorted-starts (view content r) s)
+  sorted-view = listed-rising (r .len) (λ j. content (place (r .head) j)) (λ j. startAt starts (place (r .head) j)) (λ j. same (place (r .head) j))
 
   -- what is left once the entries before h are evicted
-  pub evicted-view : (h : ℕ) → view content (advanced (countBefore h (startsOf starts r)) r) ≡ evicted h (view content r)
-  evicted-view h =
-      view-advanced content (countBefore h (startsOf starts r)) r
-      ∙ ap (λ (ss : List ℕ). drop (countBefore h ss) (view content r)) (sym view-starts)
-      ∙ evicted-count h (view content r)
+  dropped-view : (h k : ℕ) → k ≡ countBefore h (startsOf starts r) → drop k (view content r) ≡ evicted h (view content r)
+  dropped-view = listed-evicted (r .len) (λ j. content (place (r .head) j)) (λ j. startAt starts (place (r .head) j)) (λ j. same (place (r .head) j))
+
+  evicted-view : (h : ℕ) → view content (advanced (countBefore h (startsOf starts r)) r) ≡ evicted h (view content r)
+  evicted-view h = view-advanced content (countBefore h (startsOf starts r)) r ∙ dropped-view h (countBefore h (startsOf starts r)) refl
 
   -- ---- the first entry from a place on
 
   module _ (from first : ℕ) (found : first ≡ countBefore from (startsOf starts r)) (none : A) where
     found-view : evicted from (view content r) ≡ listed (r .len - first) (λ j. content (place (r .head) (first + j)))
-    found-view =
-        sym (evicted-view from)
-        ∙ view-advanced content (countBefore from (startsOf starts r)) r
-        ∙ ap (λ (k : ℕ). drop k (view content r)) (sym found)
-        ∙ listed-drop first (r .len) (λ j. content (place (r .head) j))
+    found-view = sym (dropped-view from first found) ∙ listed-drop first (r .len) (λ j. content (place (r .head) j))
 
     -- there is one: its value
     pub front-found : first < r .len → content (place (r .head) first) .value ≡ frontOf none (evicted from (view content r))
@@ -79,11 +70,7 @@ module _ {A : Type 0} (content : ℕ → Entry A) (starts : List ℕ) (same : (p
 
     -- there is none
     pub front-missing : r .len ≤ first → none ≡ frontOf none (evicted from (view content r))
-    unfolding listed
-    front-missing l = sym (ap (frontOf none) (found-view ∙ ap (λ (n : ℕ). listed n (λ j. content (place (r .head) (first + j)))) empty))
-      where
-        empty : r .len - first ≡ 0
-        empty = omega arith
+    front-missing l = sym (ap (frontOf none) (found-view ∙ listed-none (r .len - first) (λ j. content (place (r .head) (first + j))) (omega arith)))
 
   -- ---- the closing of y. `kept` is what eviction leaves, and of it the loop leaves the first `left`
 

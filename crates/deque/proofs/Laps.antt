@@ -23,8 +23,8 @@ use Rattle.deque.specs.declared.ring.Ring.{Ring}
 use Rattle.deque.specs.declared.sums.Sums.{Sums}
 use Rattle.deque.specs.Rings.{capacity, place, Fits, listed, entryWith, startAt, startsOf, advanced, withRoom, countBefore, NeverFalls, BeyondKept, newest}
 use Rattle.deque.specs.Sums.{sumAt, newestPlace, lapBehind, sumFromPlace, sumFrom, partialAt, partialsOf, sumLimit, lapLimit, FitsSums, InBounds}
-use Rattle.deque.proofs.Listed.{listed-cong, length-listed, listed-drop, listed-more, listed-map}
-use Rattle.deque.proofs.Rings.{count-le, evicted-count, sorted-starts, newest-more}
+use Rattle.deque.proofs.Listed.{listed-cong, length-listed, listed-none, listed-drop, listed-more}
+use Rattle.deque.proofs.Rings.{count-le, listed-rising, listed-evicted, newest-more}
 use Rattle.deque.proofs.Stores.{store-other, store-same, store-beyond}
 
 -- ---- numbers
@@ -153,10 +153,10 @@ module _ (s : Sums) (r : Ring) (k : ℕ) (within : k ≤ s .ring .len) (same : r
 
 -- ---- the push of an entry
 
--- what a push makes of the lap. Within a lap the table gets the lap so far; at place 0 a new lap begins. Only laws use it
-pub data Turned (s s₁ : Sums) (q : ℕ) (v x : ℤ) : Type 0 where
-  onward : (q ≡ 0 → ⊥) → v ≡ s .lap → s₁ .lap ≡ s .lap +ℤ x → s₁ .previous ≡ s .previous → Turned s s₁ q v x
-  anew : q ≡ 0 → v ≡ pos 0 → s₁ .lap ≡ x → s₁ .previous ≡ s .lap → Turned s s₁ q v x
+-- what a push makes of the laps: within a lap the table gets the lap so far, at place 0 a new lap begins. Only laws use it
+pub data LapStep (s s₁ : Sums) (q : ℕ) (v x : ℤ) : Type 0 where
+  withinLap : (q ≡ 0 → ⊥) → v ≡ s .lap → s₁ .lap ≡ s .lap +ℤ x → s₁ .previous ≡ s .previous → LapStep s s₁ q v x
+  newLap : q ≡ 0 → v ≡ pos 0 → s₁ .lap ≡ x → s₁ .previous ≡ s .lap → LapStep s s₁ q v x
 
 -- s₁ is s with one more entry, of value x: it stands at place q, and the table of sums has v there. Only laws use it
 pub record Pushed (sums sums₁ : List ℤ) (s s₁ : Sums) (q : ℕ) (v x : ℤ) : Type 0 where
@@ -167,18 +167,18 @@ pub record Pushed (sums sums₁ : List ℤ) (s s₁ : Sums) (q : ℕ) (v x : ℤ
   pub stored : sums₁ ≡ set sums q v
   pub head : s₁ .ring .head ≡ s .ring .head
   pub len : s₁ .ring .len ≡ s .ring .len + 1
-  pub turned : Turned s s₁ q v x
+  pub step : LapStep s s₁ q v x
 
 module _ (h n j : ℕ) (inside : h < capacity) (room : n < capacity) (l : j < n) where
   -- within a lap, the entries behind the new one are those that were behind the newest before it
-  test-onward : (place h n ≡ 0 → ⊥) → ltb (place h n) (place h j) ≡ ltb (place h (n - 1)) (place h j)
-  test-onward nz = le-cases (place h j) (place h (n - 1))
+  test-within : (place h n ≡ 0 → ⊥) → ltb (place h n) (place h j) ≡ ltb (place h (n - 1)) (place h j)
+  test-within nz = le-cases (place h j) (place h (n - 1))
       (λ m. le-ltb (place h n) (place h j) (omega arith) ∙ sym (le-ltb (place h (n - 1)) (place h j) m))
       (λ m. lt-ltb (place h n) (place h j) (omega arith) ∙ sym (lt-ltb (place h (n - 1)) (place h j) m))
 
   -- at the start of a lap all are
-  test-anew : place h n ≡ 0 → ltb (place h n) (place h j) ≡ true
-  test-anew z = lt-ltb (place h n) (place h j) (omega arith)
+  test-new : place h n ≡ 0 → ltb (place h n) (place h j) ≡ true
+  test-new z = lt-ltb (place h n) (place h j) (omega arith)
 
   -- and none was before
   none-behind : place h n ≡ 0 → place h j ≤ place h (n - 1)
@@ -207,27 +207,27 @@ module _ {sums sums₁ : List ℤ} {s s₁ : Sums} {q : ℕ} {v x : ℤ} (c : Pu
   behind-after j b y e f = rw (newest-after, place-after j, e, f)
 
   -- the lap and what lies behind it grow by x, seen from any entry
-  lap-more : (j : ℕ) → j < s .ring .len → Turned s s₁ q v x
+  lap-more : (j : ℕ) → j < s .ring .len → LapStep s s₁ q v x
       → s₁ .lap +ℤ lapBehind s₁ (place (s₁ .ring .head) j) ≡ s .lap +ℤ lapBehind s (place (s .ring .head) j) +ℤ x
-  lap-more j l (onward nz _ e f) =
-      ap₂ _+ℤ_ e (behind-after j _ _ (test-onward (s .ring .head) (s .ring .len) j (c .inside) (c .room) l (λ z. nz (c .next ∙ z))) f)
+  lap-more j l (withinLap nz _ e f) =
+      ap₂ _+ℤ_ e (behind-after j _ _ (test-within (s .ring .head) (s .ring .len) j (c .inside) (c .room) l (λ z. nz (c .next ∙ z))) f)
       ∙ swap (s .lap) x (lapBehind s (place (s .ring .head) j))
-  lap-more j l (anew z _ e f) =
-      ap₂ _+ℤ_ e (behind-after j _ _ (test-anew (s .ring .head) (s .ring .len) j (c .inside) (c .room) l (sym (c .next) ∙ z)) f)
+  lap-more j l (newLap z _ e f) =
+      ap₂ _+ℤ_ e (behind-after j _ _ (test-new (s .ring .head) (s .ring .len) j (c .inside) (c .room) l (sym (c .next) ∙ z)) f)
       ∙ fresh (s .lap) (lapBehind s (place (s .ring .head) j)) x
       (not-behind s (place (s .ring .head) j) (none-behind (s .ring .head) (s .ring .len) j (c .inside) (c .room) l (sym (c .next) ∙ z)))
 
   -- what the table got at the new place is the new lap without x
-  own-lap : Turned s s₁ q v x → s₁ .lap -ℤ v ≡ x
-  own-lap (onward _ d e _) = ext _ _ (omega (arith, bal-sub (s₁ .lap) v, bal-add (s .lap) x, ap up d, ap dn d, ap up e, ap dn e))
-  own-lap (anew _ d e _) = ext _ _ (omega (arith, bal-sub (s₁ .lap) v, ap up d, ap dn d, ap up e, ap dn e))
+  own-lap : LapStep s s₁ q v x → s₁ .lap -ℤ v ≡ x
+  own-lap (withinLap _ d e _) = ext _ _ (omega (arith, bal-sub (s₁ .lap) v, bal-add (s .lap) x, ap up d, ap dn d, ap up e, ap dn e))
+  own-lap (newLap _ d e _) = ext _ _ (omega (arith, bal-sub (s₁ .lap) v, ap up d, ap dn d, ap up e, ap dn e))
 
   -- the sum from an entry on grows by x
   sum-more : (j : ℕ) → j < s .ring .len → sumFrom sums₁ s₁ j ≡ sumFrom sums s j +ℤ x
   sum-more j l =
       sum-within sums₁ s₁ j (omega arith)
       ∙ ap (λ z. s₁ .lap -ℤ z +ℤ lapBehind s₁ (place (s₁ .ring .head) j)) (kept sums sums₁ v (pos 0) (c .stored) j l)
-      ∙ less (s₁ .lap) _ (s .lap) (lapBehind s (place (s .ring .head) j)) (sumAt sums (place (s .ring .head) j)) x (lap-more j l (c .turned))
+      ∙ less (s₁ .lap) _ (s .lap) (lapBehind s (place (s .ring .head) j)) (sumAt sums (place (s .ring .head) j)) x (lap-more j l (c .step))
       ∙ ap (λ z. z +ℤ x) (sym (sum-within sums s j l))
 
   -- the sum from the new entry on is x
@@ -236,7 +236,7 @@ module _ {sums sums₁ : List ℤ} {s s₁ : Sums} {q : ℕ} {v x : ℤ} (c : Pu
       sum-within sums₁ s₁ (s .ring .len) (omega arith)
       ∙ ap₂ (λ z b. s₁ .lap -ℤ z +ℤ b) (put sums sums₁ v (pos 0) (c .stored) (c .long)) (not-behind s₁ (place (s₁ .ring .head) (s .ring .len)) (omega arith))
       ∙ +ℤ-idr (s₁ .lap -ℤ v)
-      ∙ own-lap (c .turned)
+      ∙ own-lap (c .step)
 
   -- so each entry keeps its value: a difference of two sums that grow alike
   value-kept : (j : ℕ) → j < s .ring .len → sumFrom sums₁ s₁ j -ℤ sumFrom sums₁ s₁ (suc j) ≡ sumFrom sums s j -ℤ sumFrom sums s (suc j)
@@ -259,13 +259,13 @@ module _ {sums sums₁ : List ℤ} {s s₁ : Sums} {q : ℕ} {v x : ℤ} (c : Pu
       (ap₂ _-ℤ_ sum-new (sum-at-end sums₁ s₁ (suc (s .ring .len)) (omega arith)) ∙ +ℤ-idr x))
 
   -- a ring that fits, with the lap and the lap before within their bounds
-  turned-fits : Fits (s₁ .ring) → FitsSums s → Small sumLimit x → Turned s s₁ q v x → FitsSums s₁
-  turned-fits r f m (onward nz _ d e) = record {
+  stepped-fits : Fits (s₁ .ring) → FitsSums s → Small sumLimit x → LapStep s s₁ q v x → FitsSums s₁
+  stepped-fits r f m (withinLap nz _ d e) = record {
     ring = r;
     lap = subst (Small _) (sym d) (small-more _ _ (s .lap +ℤ x) (omega arith) (small-add _ sumLimit (s .lap) x (f .lap) m));
     previous = subst (Small lapLimit) (sym e) (f .previous);
   }
-  turned-fits r f m (anew z _ d e) = record {
+  stepped-fits r f m (newLap z _ d e) = record {
     ring = r;
     lap = subst (Small _) (sym d) (small-more sumLimit _ x (omega arith) m);
     previous = subst (Small lapLimit) (sym e) (lap-small s f);
@@ -273,17 +273,17 @@ module _ {sums sums₁ : List ℤ} {s s₁ : Sums} {q : ℕ} {v x : ℤ} (c : Pu
 
   -- the state still fits
   pub pushed-fits : FitsSums s → Small sumLimit x → FitsSums s₁
-  pushed-fits f m = turned-fits (record { inside = omega arith; few = omega arith }) f m (c .turned)
+  pushed-fits f m = stepped-fits (record { inside = omega arith; few = omega arith }) f m (c .step)
 
   -- what the table got is within the bound
-  stored-small : FitsSums s → Turned s s₁ q v x → Small lapLimit v
-  stored-small f (onward _ d _ _) = subst (Small lapLimit) (sym d) (lap-small s f)
-  stored-small f (anew _ d _ _) = subst (Small lapLimit) (sym d) (record { above = omega arith; below = omega arith })
+  stored-small : FitsSums s → LapStep s s₁ q v x → Small lapLimit v
+  stored-small f (withinLap _ d _ _) = subst (Small lapLimit) (sym d) (lap-small s f)
+  stored-small f (newLap _ d _ _) = subst (Small lapLimit) (sym d) (record { above = omega arith; below = omega arith })
 
   -- the numbers that the table holds are still within their bound
   pub pushed-bounds : FitsSums s → InBounds sums s → InBounds sums₁ s₁
   pushed-bounds f b j l = le-cases (s .ring .len) j
-      (λ m. subst (Small lapLimit) (sym (ap (λ i. sumAt sums₁ (place (s₁ .ring .head) i)) (omega arith) ∙ put sums sums₁ v (pos 0) (c .stored) (c .long))) (stored-small f (c .turned)))
+      (λ m. subst (Small lapLimit) (sym (ap (λ i. sumAt sums₁ (place (s₁ .ring .head) i)) (omega arith) ∙ put sums sums₁ v (pos 0) (c .stored) (c .long))) (stored-small f (c .step)))
       (λ m. subst (Small lapLimit) (sym (kept sums sums₁ v (pos 0) (c .stored) j m)) (b j m))
 
 -- ---- a window's sum read off
@@ -315,18 +315,13 @@ module _ (starts : List ℕ) (sums : List ℤ) (s : Sums) (j : ℕ) (l : j < s .
 
 -- ---- the closing step
 
--- the starts of the partials are those of the ring
-partials-starts : (starts : List ℕ) (sums : List ℤ) (s : Sums) → map (λ (e : Entry ℤ). e .start) (partialsOf starts sums s) ≡ startsOf starts (s .ring)
-partials-starts starts sums s = listed-map (λ (e : Entry ℤ). e .start) (s .ring .len) (partialAt starts sums s)
-
--- the count of those before h, and what evicting them leaves
+-- what evicting leaves: as many go as start before h
 pub partials-evicted : (starts : List ℕ) (sums : List ℤ) (s : Sums) (h k : ℕ) → k ≡ countBefore h (startsOf starts (s .ring)) → drop k (partialsOf starts sums s) ≡ evicted h (partialsOf starts sums s)
-partials-evicted starts sums s h k e =
-    ap (λ (n : ℕ). drop n (partialsOf starts sums s)) (e ∙ ap (countBefore h) (sym (partials-starts starts sums s))) ∙ evicted-count h (partialsOf starts sums s)
+partials-evicted starts sums s = listed-evicted (s .ring .len) (partialAt starts sums s) (λ j. startAt starts (place (s .ring .head) j)) (λ j. refl)
 
 -- sorted partials have starts that never fall
 pub partials-rising : (starts : List ℕ) (sums : List ℤ) (s : Sums) → Sorted (partialsOf starts sums s) → NeverFalls (startsOf starts (s .ring))
-partials-rising starts sums s p = subst NeverFalls (partials-starts starts sums s) (sorted-starts (partialsOf starts sums s) p)
+partials-rising starts sums s = listed-rising (s .ring .len) (partialAt starts sums s) (λ j. startAt starts (place (s .ring .head) j)) (λ j. refl)
 
 -- what the closing step ensures of the tables and the state before and after, for a partial that starts at `start` with the sum x
 abbrev pub Closes : (starts starts₁ : List ℕ) (sums sums₁ : List ℤ) (s s₁ : Sums) (h start : ℕ) (x : ℤ) → Type 0
@@ -384,9 +379,6 @@ module _ (starts : List ℕ) (s : Sums) (h : ℕ) (kept room : Ring) (evict : ke
 
 -- from the end on there is nothing to sum
 pub sum-none : (starts : List ℕ) (sums : List ℤ) (s : Sums) (j : ℕ) → s .ring .len ≤ j → pos 0 ≡ sum (map valueOf (drop j (partialsOf starts sums s)))
-unfolding listed
 sum-none starts sums s j l =
-    sym (ap (λ (es : List (Entry ℤ)). sum (map valueOf es)) (listed-drop j (s .ring .len) (partialAt starts sums s) ∙ ap (λ (n : ℕ). listed n (λ i. partialAt starts sums s (j + i))) none))
-  where
-    none : s .ring .len - j ≡ 0
-    none = omega arith
+    sym (ap (λ (es : List (Entry ℤ)). sum (map valueOf es))
+    (listed-drop j (s .ring .len) (partialAt starts sums s) ∙ listed-none (s .ring .len - j) (λ i. partialAt starts sums s (j + i)) (omega arith)))

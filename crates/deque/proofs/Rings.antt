@@ -1,7 +1,7 @@
 -- The laws of a ring's view: eviction, room for one more, a store behind the newest, and the search by start.
 -- Assumes nothing.
 use Prim.Native.Nat.{ℕ, zero, suc, _+_, _-_, _%_, _<_, _≤_}
-use mathlib.Core.Path.{_≡_, refl, sym, ap, ap₂, _∙_}
+use mathlib.Core.Path.{_≡_, refl, sym, ap, ap₂, _∙_, subst}
 use mathlib.Core.Bool.{Bool, true, false, cond}
 use mathlib.Core.List.{List, [], _∷_, _++_, map}
 use native.Mathlib.Omega.{arith}
@@ -14,22 +14,32 @@ use Rattle.window.specs.Standing.{evicted}
 use Rattle.window.specs.Invariant.{Sorted}
 use Rattle.deque.specs.declared.ring.Ring.{Ring}
 use Rattle.deque.specs.Rings.{capacity, place, listed, view, startAt, startsOf, advanced, withRoom, grown, countBefore, NeverFalls, newest}
-use Rattle.deque.proofs.Listed.{listed-cong, listed-front, listed-more, listed-drop}
+use Rattle.deque.proofs.Listed.{listed-cong, listed-front, listed-more, listed-drop, listed-map}
 
 -- the ring that starts at place h and has n entries
 abbrev pub ringOf : ℕ → ℕ → Ring
 ringOf h n = record { head = h; len = n }
+
+-- ---- places
+
+place-zero : (h : ℕ) → h < capacity → place h 0 ≡ h
+place-zero h l = omega arith
+
+-- j places on from the place k places on
+place-place : (h k j : ℕ) → place (place h k) j ≡ place h (k + j)
+place-place h k j = omega arith
+
+-- from the next place on
+place-next : (h j : ℕ) → place h (suc j) ≡ place (place h 1) j
+place-next h j = omega arith
 
 -- ---- eviction
 
 -- without the k oldest entries, the view is the list without its first k
 pub view-advanced : {A : Type 0} (content : ℕ → A) (k : ℕ) (r : Ring) → view content (advanced k r) ≡ drop k (view content r)
 view-advanced content k r =
-    listed-cong (r .len - k) (λ j. content (place (place (r .head) k) j)) (λ j. content (place (r .head) (k + j))) (λ j l. ap content (moved (r .head) j))
+    listed-cong (r .len - k) (λ j. content (place (place (r .head) k) j)) (λ j. content (place (r .head) (k + j))) (λ j l. ap content (place-place (r .head) k j))
     ∙ sym (listed-drop k (r .len) (λ j. content (place (r .head) j)))
-  where
-    moved : (h j : ℕ) → ((h + k) % 4096 + j) % 4096 ≡ (h + (k + j)) % 4096
-    moved h j = omega arith
 
 pub count-le : (h : ℕ) (ss : List ℕ) → countBefore h ss ≤ length ss
 unfolding countBefore
@@ -41,12 +51,9 @@ count-le h (s ∷ ss) = go (live h s) (count-le h ss)
     go false l = omega arith
 
 -- with none of them gone, it is the same
-pub unmoved : (h n : ℕ) → h < capacity → advanced 0 (ringOf h n) ≡ ringOf h n
-unmoved h n hh = ap₂ ringOf at-head whole
+unmoved : (h n : ℕ) → h < capacity → advanced 0 (ringOf h n) ≡ ringOf h n
+unmoved h n hh = ap₂ ringOf (place-zero h hh) whole
   where
-    at-head : (h + 0) % 4096 ≡ h
-    at-head = omega arith
-
     whole : n - 0 ≡ n
     whole = omega arith
 
@@ -56,17 +63,11 @@ pub evict-step : (starts : List ℕ) (hz h n : ℕ) → h < capacity → 0 < n �
 unfolding countBefore
 evict-step starts hz h n hh hn lt =
     ap (λ (ss : List ℕ). advanced (countBefore hz ss) (ringOf h n)) (listed-front n (λ j. startAt starts (place h j)) hn)
-    ∙ rw (at-head, lt-leb hz (startAt starts h) lt, listed-cong (n - 1) (λ j. startAt starts (place h (suc j))) (λ j. startAt starts (place (place h 1) j)) (λ j l. ap (startAt starts) (moved j)))
-    (ap₂ ringOf (later (countBefore hz (startsOf starts (ringOf (place h 1) (n - 1))))) (less (countBefore hz (startsOf starts (ringOf (place h 1) (n - 1))))))
+    ∙ rw (place-zero h hh, lt-leb hz (startAt starts h) lt, listed-cong (n - 1) (λ j. startAt starts (place h (suc j))) (λ j. startAt starts (place (place h 1) j)) (λ j l. ap (startAt starts) (place-next h j)))
+    (ap₂ ringOf (place-next h gone) (less gone))
   where
-    at-head : (h + 0) % 4096 ≡ h
-    at-head = omega arith
-
-    moved : (j : ℕ) → (h + suc j) % 4096 ≡ ((h + 1) % 4096 + j) % 4096
-    moved j = omega arith
-
-    later : (k : ℕ) → (h + suc k) % 4096 ≡ ((h + 1) % 4096 + k) % 4096
-    later k = omega arith
+    gone : ℕ
+    gone = countBefore hz (startsOf starts (ringOf (place h 1) (n - 1)))
 
     less : (k : ℕ) → n - suc k ≡ (n - 1) - k
     less k = omega arith
@@ -76,10 +77,7 @@ pub evict-stop : (starts : List ℕ) (hz h n : ℕ) → h < capacity → 0 < n �
 unfolding countBefore
 evict-stop starts hz h n hh hn le =
     ap (λ (ss : List ℕ). advanced (countBefore hz ss) (ringOf h n)) (listed-front n (λ j. startAt starts (place h j)) hn)
-    ∙ rw (at-head, le-leb hz (startAt starts h) le) (unmoved h n hh)
-  where
-    at-head : (h + 0) % 4096 ≡ h
-    at-head = omega arith
+    ∙ rw (place-zero h hh, le-leb hz (startAt starts h) le) (unmoved h n hh)
 
 -- none is left
 pub evict-none : (starts : List ℕ) (hz h n : ℕ) → h < capacity → n ≤ 0 → advanced (countBefore hz (startsOf starts (ringOf h n))) (ringOf h n) ≡ ringOf h n
@@ -138,7 +136,7 @@ count-parted m (suc n) f (suc r) l below above =
 -- ---- entries with a start, of any type
 
 -- evicting entries one after the other drops as many as start before h
-pub evicted-count : {A : Type 0} (h : ℕ) (es : List (Entry A)) → drop (countBefore h (map (λ (e : Entry A). e .start) es)) es ≡ evicted h es
+evicted-count : {A : Type 0} (h : ℕ) (es : List (Entry A)) → drop (countBefore h (map (λ (e : Entry A). e .start) es)) es ≡ evicted h es
 unfolding countBefore
 evicted-count h [] = refl
 evicted-count {A} h (e ∷ es) = go (live h (e .start)) (evicted-count h es)
@@ -151,7 +149,7 @@ evicted-count {A} h (e ∷ es) = go (live h (e .start)) (evicted-count h es)
     go false ih = ih
 
 -- sorted entries have starts that never fall
-pub sorted-starts : {A : Type 0} (es : List (Entry A)) → Sorted es → NeverFalls (map (λ (e : Entry A). e .start) es)
+sorted-starts : {A : Type 0} (es : List (Entry A)) → Sorted es → NeverFalls (map (λ (e : Entry A). e .start) es)
 sorted-starts [] s = tt
 sorted-starts {A} (e ∷ es) s = (go es (s .0), sorted-starts es (s .1))
   where
@@ -159,7 +157,18 @@ sorted-starts {A} (e ∷ es) s = (go es (s .0), sorted-starts es (s .1))
     go [] h = tt
     go (x ∷ xs) h = (h .0, go xs (h .1))
 
--- ---- a store behind the newest
+-- the same of a list of an index function, with the starts by index
+module _ {A : Type 0} (n : ℕ) (f : ℕ → Entry A) (starts : ℕ → ℕ) (same : (j : ℕ) → f j .start ≡ starts j) where
+  listed-starts : map (λ (e : Entry A). e .start) (listed n f) ≡ listed n starts
+  listed-starts = listed-map (λ (e : Entry A). e .start) n f ∙ listed-cong n (λ j. f j .start) starts (λ j l. same j)
+
+  pub listed-rising : Sorted (listed n f) → NeverFalls (listed n starts)
+  listed-rising s = subst NeverFalls listed-starts (sorted-starts (listed n f) s)
+
+  pub listed-evicted : (h k : ℕ) → k ≡ countBefore h (listed n starts) → drop k (listed n f) ≡ evicted h (listed n f)
+  listed-evicted h k e = ap (λ (i : ℕ). drop i (listed n f)) (e ∙ ap (countBefore h) (sym listed-starts)) ∙ evicted-count h (listed n f)
+
+-- ---- one entry more
 
 -- the view of a ring with one entry more, where the other entries are as they were
 pub view-pushed : {A : Type 0} (before after : ℕ → A) (e : A) (h n : ℕ) → ((j : ℕ) → j < n → after (place h j) ≡ before (place h j)) → after (place h n) ≡ e

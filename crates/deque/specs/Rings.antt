@@ -53,7 +53,7 @@ advanced k r = record { head = place (r .head) k; len = r .len - k }
 abbrev pub withRoom : Ring → Ring
 withRoom r = advanced (r .len + 1 - capacity) r
 
--- the ring with one entry more, behind the newest
+-- the ring with one entry more, after the newest
 abbrev pub grown : Ring → Ring
 grown r = record { head = r .head; len = r .len + 1 }
 

@@ -22,7 +22,7 @@ sumAt sums p = getD sums p (pos 0)
 abbrev pub newestPlace : Sums → ℕ
 newestPlace s = place (s .ring .head) (s .ring .len - 1)
 
--- the lap before, where place p lies behind the newest and so belongs to it
+-- the sum of the lap before, where place p is greater than that of the newest: what stands there belongs to the lap before
 abbrev pub lapBehind : Sums → ℕ → ℤ
 lapBehind s p = cond (ltb (newestPlace s) p) (s .previous) (pos 0)
 

@@ -16,7 +16,7 @@ pub(crate) struct Compared {
     pub total: u64,
 }
 
-// Whether the value of an older partial is at most that of a newer one: at most it for maxima, at least it for minima.
+// Whether the value of an older partial is at most that of a newer one, by the order: for maxima at most, for minima at least.
 pub(crate) fn compare(extreme: Extreme, older: i32, newer: i32, total: u64) -> Compared
     requires { ⌜ total + 1 < 2 ^ 64 ⌝ }
     ensures { λ r. ⌜ (r .verdict ≡ orderOf extreme older newer) × (r .total ≡ total + 1) ⌝ }

@@ -73,7 +73,7 @@ impl Ring {
         Ring { head, len }
     }
 
-    // With room for one entry more: a full ring drops its oldest. On tables that came from a start it is never full.
+    // With room for one entry more: a full ring drops its oldest. On tables that came from a start, eviction has left room before.
     fn with_room(self) -> Ring
         requires { ⌜ Fits self ⌝ }
         ensures fits { λ r. ⌜ Fits r × (r .len < capacity) ⌝ }
@@ -90,7 +90,7 @@ impl Ring {
         }
     }
 
-    // With one entry more behind the newest, whose start is stored at its place.
+    // With one entry more, after the newest, whose start is stored at its place.
     pub(crate) fn push(self, starts: &mut [Count], start: Count) -> Pushed
         requires { ⌜ Fits self × (capacity ≤ length (now starts)) ⌝ }
         ensures fits { λ r. ⌜ Fits (r .ring) × (r .place < capacity) ⌝ }

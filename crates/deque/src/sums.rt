@@ -23,6 +23,7 @@ pub const SUM_LIMIT: u64 = 140_737_488_355_328;
 // The greatest size of a lap's sum: 2^59.
 pub const LAP_LIMIT: u64 = 576_460_752_303_423_488;
 
+// The closed partials: their ring, and the sums of two laps of it. A lap is a run of pushes from place 0 to the last one.
 pub struct Sums {
     pub ring: Ring,
     // The sum of the partials since place 0.

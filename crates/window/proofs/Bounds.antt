@@ -1,17 +1,19 @@
 -- The bounds of `Bounded` hold after every list of calls; and how large a sum of readings can be.
 -- Assumes nothing.
 use mathlib.Core.Path.{_≡_, refl, subst}
-use mathlib.Core.Bool.{Bool, true, false, cond, _||_}
+use mathlib.Core.Bool.{Bool, false, _||_}
 use mathlib.Core.Option.{Option, none, some}
 use mathlib.Core.List.{List, [], _∷_}
-use Prim.Native.Nat.{ℕ, suc, _+_, _*_, _-_, _≤_, _<_, zero-le}
+use Prim.Native.Nat.{ℕ, _+_, _*_, _-_, _≤_, _<_, zero-le}
 use native.Mathlib.Nat.{not-suc-le-zero}
 use native.Mathlib.Omega.{arith}
 use lib.Dec.{ltb}
-use lib.IntN.{ℤ, pos, negsuc, _+ℤ_, subℕ}
-use lib.Signed.{leZ, mag}
+use lib.IntN.{ℤ, _+ℤ_}
+use lib.Signed.{leZ}
 use lib.ListN.{length}
 use borrow.Author.Tests.{le-ltb}
+use Rattle.ints.specs.Sizes.{Small}
+use Rattle.ints.proofs.Sizes.{small-more, small-add, small-reading}
 use Rattle.window.specs.declared.query.Query.{Query}
 use Rattle.window.specs.Lists.{any, Each}
 use Rattle.window.specs.Orders.{geZ, sum}
@@ -116,21 +118,10 @@ reached-bounded cs = bounded (reached cs) (reached-invariant cs)
 
 -- ---- sums
 
-mag-sub : (a b : ℕ) → mag (subℕ a b) ≤ a + b
-mag-sub a b = go (ltb a b) refl
-  where
-    go : (c : Bool) → ltb a b ≡ c → mag (cond c (negsuc (b - suc a)) (pos (a - b))) ≤ a + b
-    go true e = omega arith
-    go false e = omega arith
-
-mag-add : (x y : ℤ) → mag (x +ℤ y) ≤ mag x + mag y + 1
-mag-add (pos a) (pos b) = omega arith
-mag-add (pos a) (negsuc b) = omega (arith, mag-sub a (suc b))
-mag-add (negsuc a) (pos b) = omega (arith, mag-sub b (suc a))
-mag-add (negsuc a) (negsuc b) = omega arith
-
--- the sum of k readings is at most k * 2^31 in size; `mag` of z is z, or -z - 1 where z is below 0
-pub sum-bound : (xs : List ℤ) → Each IsReading xs → mag (sum xs) ≤ length xs * 2147483648
-sum-bound [] h = zero-le
-sum-bound (x ∷ []) h = omega (arith, h .0 .sfits)
-sum-bound (x ∷ y ∷ ys) h = omega (arith, h .0 .sfits, mag-add x (sum (y ∷ ys)), sum-bound (y ∷ ys) (h .1))
+-- the sum of k readings is at most k * 2^31 in size
+pub sum-bound : (xs : List ℤ) → Each IsReading xs → Small (length xs * 2147483648) (sum xs)
+sum-bound [] h = record { above = zero-le; below = zero-le }
+sum-bound (x ∷ []) h = small-more 2147483648 _ x (omega arith) (small-reading x (h .0))
+sum-bound (x ∷ y ∷ ys) h =
+    small-more _ _ (x +ℤ sum (y ∷ ys)) (omega arith)
+    (small-add 2147483648 (length (y ∷ ys) * 2147483648) x (sum (y ∷ ys)) (small-reading x (h .0)) (sum-bound (y ∷ ys) (h .1)))

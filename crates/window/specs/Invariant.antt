@@ -31,7 +31,7 @@ abbrev pub Tiles : ℕ → List Partial → ℕ → Type 0
 Tiles a [] c = a ≡ c
 Tiles a (p ∷ ps) c = (p .start ≡ a) × (p .start < p .stop) × Tiles (p .stop) ps c
 
--- entries whose starts never fall: what the laws of standing entries ask of a list
+-- entries whose starts never fall: what the laws of standing entries and the searches in a ring ask of a list
 abbrev pub Sorted : {A : Type 0} → List (Entry A) → Type 0
 Sorted [] = Unit {0}
 Sorted {A} (x ∷ xs) = Each (λ (y : Entry A). x .start ≤ y .start) xs × Sorted xs

@@ -22,7 +22,7 @@ module _ {A : Type 0} where
   joined [] = []
   joined (xs ∷ more) = xs ++ joined more
 
-  -- P of every element; only invariants and laws use it
+  -- P of every element; the model does without it, premises, invariants and laws do not
   abbrev pub Each : (A → Type 0) → List A → Type 0
   Each P [] = Unit {0}
   Each P (x ∷ xs) = P x × Each P xs

@@ -29,7 +29,7 @@ pub record Entry (A : Type 0) : Type 0 where
   pub start : ℕ
   pub value : A
 
--- only laws use it
+-- the value of an entry, as a function; the model does without it
 abbrev pub valueOf : {A : Type 0} → Entry A → A
 valueOf e = e .value
 

@@ -32,7 +32,7 @@ abbrev pub comparisons : {A : Type 0} → (A → A → Bool) → List (Entry A) 
 comparisons {A} below xs y =
     length (filter (λ (x : Entry A). atMost below x y) xs) + oneIfAny (filter (λ (x : Entry A). exceeds below x y) xs)
 
--- ---- what only laws use
+-- ---- at the front; the model does without, the rings and the laws do not
 
 -- the value of the first entry; `none` for the empty list. The first standing partial of a window has its maximum
 abbrev pub frontOf : {A : Type 0} → A → List (Entry A) → A

@@ -9,7 +9,7 @@ use Rattle.ints.proofs.Round.{add-fits, add-is}
 use Rattle.deque.specs.declared.ring.Ring.{Ring}
 use Rattle.deque.specs.declared.sums.Sums.{Sums}
 use Rattle.deque.specs.Rings.{withRoom}
-use Rattle.deque.proofs.Laps.{Turned, onward, anew, Pushed, onRing, Closes, lap-fits, previous-fits, more-fits, closed-all}
+use Rattle.deque.proofs.Laps.{LapStep, withinLap, newLap, Pushed, onRing, Closes, lap-fits, previous-fits, more-fits, closed-all}
 use Rattle.deque.proofs.sums.Sums.close.Statement.{statement}
 use Rattle.deque.proofs.sums.Sums.close.Tie as tie
 use Rattle.deque.proofs.sums.Sums.close.Reads as reads
@@ -51,8 +51,8 @@ after c lap previous = record { ring = c .push .result .ring; lap = lap; previou
 abbrev sumsAfter : tie.After-push → ℤ → List ℤ
 sumsAfter c v = set (start c .args .sums .now) (c .push .result .place) v
 
--- a push that turns the laps rightly is all that is asked
-closed : (c : tie.After-push) (v lap previous : ℤ) → Turned (onRing (room c) (start c .args .self)) (after c lap previous) (c .push .result .place) v (start c .args .sum)
+-- a push that steps the laps as it should is all that is asked
+closed : (c : tie.After-push) (v lap previous : ℤ) → LapStep (onRing (room c) (start c .args .self)) (after c lap previous) (c .push .result .place) v (start c .args .sum)
     → Closes (start c .args .starts .now) (c .push .last .1 .0) (start c .args .sums .now) (sumsAfter c v) (start c .args .self) (after c lap previous)
     (start c .args .horizon) (start c .args .start) (start c .args .sum)
 closed c v lap previous t =
@@ -71,14 +71,14 @@ closed c v lap previous t =
       stored = refl;
       head = ap (λ (r : Ring). r .head) (c .push .ensures .1 .0 .0);
       len = ap (λ (r : Ring). r .len) (c .push .ensures .1 .0 .0);
-      turned = t;
+      step = t;
     }
 
 returns : tie.Need-returns
 returns c =
     let p = c .before .before .before .before .before in
     let s = start p in
-    closed p (pos 0) _ _ (anew (c .if1 .taken) refl (toZ-ofZ (s .fits .sum)) (toZ-ofZ (lap-fits (s .args .self) (s .pre .0))))
+    closed p (pos 0) _ _ (newLap (c .if1 .taken) refl (toZ-ofZ (s .fits .sum)) (toZ-ofZ (lap-fits (s .args .self) (s .pre .0))))
 
 mul-lap : tie.Need-mul-lap
 mul-lap c = search needs
@@ -102,7 +102,7 @@ returns-2 c =
     let p = c .before .before .before .before .before .before in
     let s = start p in
     let l = toZ-ofZ (lap-fits (s .args .self) (s .pre .0)) in
-    closed p _ _ _ (onward (c .before .if1 .left) l (add-is l (toZ-ofZ (s .fits .sum)) (more-fits (s .args .self) (s .pre .0) (s .args .sum) (s .pre .3))) (toZ-ofZ (previous-fits (s .args .self) (s .pre .0))))
+    closed p _ _ _ (withinLap (c .before .if1 .left) l (add-is l (toZ-ofZ (s .fits .sum)) (more-fits (s .args .self) (s .pre .0) (s .args .sum) (s .pre .3))) (toZ-ofZ (previous-fits (s .args .self) (s .pre .0))))
 
 pub close-spec : {M : Type 1} → statement M
 close-spec =
