@@ -92,7 +92,7 @@ module _ {A : Type 0} (content : ℕ → Entry A) (starts : List ℕ) (same : (p
     pub cost-is : (total before : ℕ) → total ≡ before + ((kept .len - left) + min 1 left) → total ≡ before + closingCost below y h (view content r)
     cost-is total before e = rw (oneIfAny-length (trimmed below y (evicted h (view content r))), ← left-length, ← kept-length) e
 
-    -- the view with y behind what is left; `after` gives the entries once y is stored
+    -- the view with y after what is left; `after` gives the entries once y is stored
     pub closed-view : (after : ℕ → Entry A) (room : Ring) → room ≡ withRoom (ringOf (kept .head) left)
         → ((j : ℕ) → j < room .len → after (place (room .head) j) ≡ content (place (room .head) j)) → after (place (room .head) (room .len)) ≡ y
         → view after (grown room) ≡ closedWith below y h (view content r)

@@ -57,7 +57,7 @@ shifted a b c = ext _ _ (omega (arith, bal-sub (a +ℤ c) (b +ℤ c), bal-add a 
 same-entry : {a b : ℕ} {x y : ℤ} → a ≡ b → x ≡ y → entryWith a x ≡ entryWith b y
 same-entry e f = ap₂ entryWith e f
 
--- a place that is not behind the newest does not belong to the lap before
+-- behind the newest, here: at a greater place than it, and so of the lap before. A place that is not does not belong to that lap
 not-behind : (s : Sums) (p : ℕ) → p ≤ newestPlace s → lapBehind s p ≡ pos 0
 not-behind s p l = rw (le-ltb (newestPlace s) p l)
 

@@ -1,4 +1,4 @@
--- The laws of a ring's view: eviction, room for one more, a store behind the newest, and the search by start.
+-- The laws of a ring's view: places, eviction, room for one more, the search by start, and one entry more.
 -- Assumes nothing.
 use Prim.Native.Nat.{ℕ, zero, suc, _+_, _-_, _%_, _<_, _≤_}
 use mathlib.Core.Path.{_≡_, refl, sym, ap, ap₂, _∙_, subst}

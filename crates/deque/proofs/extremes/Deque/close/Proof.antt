@@ -26,6 +26,7 @@ use Rattle.deque.proofs.ring.Ring.evict.Reads as evict-reads
 use Rattle.deque.proofs.ring.Ring.place.Reads as place-reads
 use Rattle.deque.proofs.ring.Ring.push.Reads as push-reads
 
+-- so many went, at one comparison each, and dropping on from what is left leaves what dropping from all leaves
 abbrev Inv-loop : tie.InvT-loop
 Inv-loop extreme starts values horizon start value kept len₀ total₀ len total =
     (len ≤ kept .len) × (total ≡ total₀ + (kept .len - len))
@@ -76,8 +77,12 @@ new a = entryWith (start a .args .start) (start a .args .value)
 abbrev order : tie.At-loop Inv-loop μ-loop → ℤ → ℤ → Bool
 order a = orderOf (start a .args .extreme)
 
+-- the head of the loop, from a turn's comparison
+abbrev turn : tie.After-compare Inv-loop μ-loop → tie.At-loop Inv-loop μ-loop
+turn c = c .before .before .before .before
+
 -- the verdict of a turn's one comparison, of the numbers themselves
-verdict : (c : tie.After-compare Inv-loop μ-loop) → c .compare .result .verdict ≡ atMost (order (c .before .before .before .before)) (entryOf (c .before .before .before .before) (c .before .before .before .before .loop .len - 1)) (new (c .before .before .before .before))
+verdict : (c : tie.After-compare Inv-loop μ-loop) → c .compare .result .verdict ≡ atMost (order (turn c)) (entryOf (turn c) (turn c .loop .len - 1)) (new (turn c))
 verdict c =
     let s = start (c .before .before .before .before) in
     rw (toZ-ofZ (s .fits .value), toZ-ofZ {w = w32} {z = getD (s .args .values .now) (c .before .before .place .result) (pos 0)} (sfits-of (c .before .compare-arg .given)), c .before .before .place .ensures)
@@ -118,7 +123,7 @@ fact-2 c =
       sym (trim-stop (order a) (new a) (a .loop .len) (entryOf a) (omega arith) (sym (verdict (c .before .before)) ∙ not-true _ (c .if2 .taken))) ∙ rw (toZ-ofZ (s .fits .value)) at (a .loop .inv .2),
     )
 
--- both ends of the loop
+-- both ends of the loop: there was no entry left, or the last one stays
 joined : (c : tie.Joined1 Inv-loop μ-loop) → Fact (c .before) (c .if1 .left) (c .if1 .total)
 joined c =
     ⊎-elim (λ w. rw (w .1, w .2) (fact-1 (record { before = c .before; if1 = w .0 })))
