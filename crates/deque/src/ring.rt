@@ -73,7 +73,7 @@ impl Ring {
         Ring { head, len }
     }
 
-    // With room for one entry more: a full ring drops its oldest. On tables that came from a start, eviction has left room before.
+    // With room for one entry more: a full ring drops its oldest. Where the ring holds live partials alone, there is room.
     fn with_room(self) -> Ring
         requires { ⌜ Fits self ⌝ }
         ensures fits { λ r. ⌜ Fits r × (r .len < capacity) ⌝ }
