@@ -118,7 +118,7 @@ horizon-far n (q ∷ []) g = omega (arith, g .0 .rangeHigh)
 horizon-far n (q ∷ p ∷ qs) g = omega (arith, horizon-far n (p ∷ qs) (g .1), g .0 .rangeHigh)
 
 -- and at most n
-horizon-le-count : (n : ℕ) (qs : List Query) → Each (λ (q : Query). q .origin ≤ n) qs → horizon n qs ≤ n
+pub horizon-le-count : (n : ℕ) (qs : List Query) → Each (λ (q : Query). q .origin ≤ n) qs → horizon n qs ≤ n
 horizon-le-count n [] h = le-refl n
 horizon-le-count n (q ∷ []) h = omega (arith, h .0)
 horizon-le-count n (q ∷ p ∷ qs) h = omega (arith, horizon-le-count n (p ∷ qs) (h .1))
@@ -135,7 +135,7 @@ horizon-more n (p ∷ []) q h e = omega (arith, h .0)
 horizon-more n (p ∷ r ∷ qs) q h e = ap (λ (x : ℕ). min (windowStart n p) x) (horizon-more n (r ∷ qs) q (h .1) e)
 
 -- one query more, in front
-horizon-cons : (n : ℕ) (q : Query) (qs : List Query) → Each (λ (p : Query). p .origin ≤ n) (q ∷ qs) → horizon n (q ∷ qs) ≡ min (windowStart n q) (horizon n qs)
+pub horizon-cons : (n : ℕ) (q : Query) (qs : List Query) → Each (λ (p : Query). p .origin ≤ n) (q ∷ qs) → horizon n (q ∷ qs) ≡ min (windowStart n q) (horizon n qs)
 horizon-cons n q [] h = omega (arith, h .0)
 horizon-cons n q (p ∷ qs) h = refl
 

@@ -1,0 +1,56 @@
+-- Demand 3: the engine's run of a list of calls and the model's agree.
+-- Assumes nothing.
+use mathlib.Core.Path.{_≡_, refl, ap, ap₂, _∙_, subst}
+use mathlib.Core.List.{List, [], _∷_}
+use Rattle.window.specs.Calls.{Call, start, register, withdraw, reading, totals, Outcome}
+use Rattle.window.specs.Model as model
+use Rattle.window.specs.Model.{count, initial, step, run}
+use Rattle.window.proofs.Bounds.{bounded}
+use Rattle.engine.specs.Machine.{Machine, Represents}
+use Rattle.engine.specs.Contracts.{Ensures, ReadingEnsures, StartEnsures}
+use Rattle.engine.specs.Demand3.{Performs, Performed, ended, called, Fresh, AgreesWith, Demand3}
+
+-- one call on what represents a state of the model: the outcome is the model's, and what is left represents the model's next state
+record Follows (s : model.State) (c : Call) (o : Outcome) (m′ : Machine) : Type 0 where
+  agrees : o ≡ (step s c) .outcome
+  represents : Represents ((step s c) .state) m′
+
+ensured : (s : model.State) (c : Call) (m : Machine) (o : Outcome) (m′ : Machine) → Ensures c m o m′ → Represents s m → Follows s c o m′
+ensured s c m o m′ e rep = record { agrees = e .agrees s rep; represents = e .represents s rep }
+
+-- whichever call it is
+follows : (s : model.State) (c : Call) (m : Machine) (o : Outcome) (m′ : Machine) → Performs c m o m′ → Represents s m → Follows s c o m′
+unfolding step
+follows s start m o m′ e rep = record { agrees = e .accepts (rep .long); represents = e .represents (rep .long) }
+follows s (register number kind range slide) m o m′ e rep = ensured s (register number kind range slide) m o m′ e rep
+follows s (withdraw number) m o m′ e rep = ensured s (withdraw number) m o m′ e rep
+follows s (reading v places) m o m′ e rep =
+    subst (λ n. Follows s (reading v n) o m′) (e .long) (ensured s (reading v _) m o m′ (e .ensures .ensures) rep)
+follows s totals m o m′ e rep = ensured s totals m o m′ e rep
+
+-- a list of calls on what represents s
+performed : (s : model.State) {m m′ : Machine} {cs : List Call} {os : List Outcome} → Represents s m → Performed m cs os m′
+    → (os ≡ (run s cs) .outcomes) × Represents ((run s cs) .state) m′
+performed s rep ended = (refl, rep)
+performed s {m} rep (called {m′ = n} {c = c} {o = o} e rest) =
+    let f : Follows s c o n = follows s c m o n e rep in
+    let k = performed ((step s c) .state) (f .represents) rest in
+    (ap₂ (λ (x : Outcome) (xs : List Outcome). x ∷ xs) (f .agrees) (k .0), k .1)
+
+-- demand 3
+pub demand-3 : Demand3
+demand-3 fresh f calls outcomes m p =
+    let k = performed initial (f .started .represents (f .long)) p in
+    let rep : Represents ((run initial calls) .state) m = k .1 in
+    let b = bounded ((run initial calls) .state) (rep .reached) in
+    record {
+      outcomes = k .0;
+      queries = rep .queries .used;
+      unused = rep .queries .tidy;
+      readings = rep .state .count;
+      partials = rep .state .closed;
+      maxima = rep .state .maxComparisons;
+      minima = rep .state .minComparisons;
+      maxBound = rw (rep .state .maxComparisons, rep .state .closed) (b .maxima);
+      minBound = rw (rep .state .minComparisons, rep .state .closed) (b .minima);
+    }

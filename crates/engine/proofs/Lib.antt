@@ -1,0 +1,13 @@
+pub mod Aggregates
+pub mod Widened
+pub mod Boards
+pub mod Places
+pub mod Closings
+pub mod Refinement
+pub mod Registration
+pub mod Answering
+pub mod Soundness
+pub mod Judging
+pub mod Taking
+pub mod Promises
+pub mod Agreement

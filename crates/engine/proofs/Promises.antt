@@ -1,0 +1,425 @@
+-- How each way through an open call comes to what the call promises: one law a way.
+-- Assumes nothing.
+use mathlib.Core.Path.{_≡_, refl, sym, ap, _∙_, subst}
+use mathlib.Core.Bool.{Bool, true, false, true≢false, not, cond}
+use mathlib.Core.List.{List, [], _∷_, _++_, map}
+use Prim.Native.Nat.{ℕ, zero, suc, _+_, _*_, _≤_, _<_}
+use native.Mathlib.Omega.{arith}
+use lib.Dec.{leb}
+use borrow.Author.Tests.{le-leb}
+use Rattle.deque.specs.Rings.{capacity}
+use lib.IntN.{ℤ, pos, natAbs}
+use lib.ListN.{length, length-append, drop, replicate, length-replicate}
+use Rattle.window.specs.declared.query.Query.{Query}
+use Rattle.window.specs.declared.refusal.Refusal.{Refusal}
+use Rattle.window.specs.declared.refusal.Refusal.the-variants.{TableTooShort, Damaged}
+use Rattle.window.specs.declared.refusal.Verdict.{Verdict}
+use Rattle.window.specs.declared.refusal.Verdict.the-variants.{Passed, Refused}
+use Rattle.window.specs.Lists.{filter, any, Each}
+use Rattle.window.specs.Queries.{edge, horizon}
+use Rattle.window.specs.Refusals.{refusalNumber, Check, firstRefusal, fieldChecks, listChecks, registerChecks, withdrawChecks, readingChecks, hasNumber, dueAt, answerPlaces}
+use Rattle.window.specs.Calls.{IsReading, Call, start, register, withdraw, reading, totals, OfReading, Answer, Outcome, accepted, refused}
+use Rattle.window.specs.Model as model
+use Rattle.window.specs.Model.{count, initial, afterRegister, afterWithdraw, afterReading, answers, Stepped, done, answered, totalsOf, judged, newQuery, step}
+use Rattle.window.specs.Invariant.{Invariant}
+use Rattle.window.proofs.Preserved.{initial-invariant, step-invariant}
+use Rattle.window.proofs.Steps.{step-readings, register-queries, reading-queries, reading-readings}
+use Rattle.registry.specs.declared.queries.Queries.{Queries}
+use Rattle.registry.specs.Records.{used, Tidy}
+use Rattle.engine.specs.declared.partial.Open.{Open}
+use Rattle.engine.specs.declared.partial.Open.the-variants.{Nothing, Empty, Holding}
+use Rattle.engine.specs.declared.calls.Answered.{Answered}
+use Rattle.engine.specs.declared.calls.ReadingReply.{ReadingReply}
+use Rattle.engine.specs.declared.calls.Reply.{Reply}
+use Rattle.engine.specs.declared.state.State.{State}
+use Rattle.engine.specs.States.{Tables, longEnough, enough, zeroed, Kept, TablesKept, Intact, Judged, isShort, isDamaged, isJudged, FreshState, withReading, withPartial, openWhileAny, OpenClosed, ClosedWhere, Closed}
+use Rattle.engine.specs.Answers.{placesOf, places, answeredPlaces, answersIn, answerFrom, InOrder}
+use Rattle.engine.specs.Machine.{Machine, machine, Lists, StateIs, Represents}
+use Rattle.engine.specs.Outcomes.{verdictOutcome, readingOutcome}
+use Rattle.engine.specs.Contracts.{InRows, rows, Ensures, written, ReadingEnsures, zeroedTables, StartEnsures}
+use Rattle.engine.proofs.Refinement.{read-is}
+use Rattle.engine.proofs.Registration.{registered-is, withdrawn-is, fresh-is}
+use Rattle.engine.proofs.Answering.{in-order, answers-are}
+use Rattle.engine.proofs.Soundness.{represents-intact}
+use Rattle.engine.proofs.Judging.{judged-passed}
+
+-- ---- the model's step, as a verdict and what follows on acceptance
+
+-- what a call's own checks come to, with n readings taken and these queries registered
+abbrev pub verdictOf : Call → ℕ → List Query → Verdict
+verdictOf start n qs = Passed
+verdictOf (register number kind range slide) n qs = firstRefusal (registerChecks qs number kind range slide)
+verdictOf (withdraw number) n qs = firstRefusal (withdrawChecks qs number)
+verdictOf (reading v places) n qs = firstRefusal (readingChecks n qs places)
+verdictOf totals n qs = Passed
+
+-- the accepted call
+abbrev pub acceptedStep : model.State → Call → Stepped
+acceptedStep s start = done initial
+acceptedStep s (register number kind range slide) = done (afterRegister s (newQuery s number kind range slide))
+acceptedStep s (withdraw number) = done (afterWithdraw s number)
+acceptedStep s (reading v places) = answered (afterReading s v)
+acceptedStep s totals = totalsOf s
+
+step-judged : (s : model.State) (c : Call) → step s c ≡ judged (verdictOf c (count s) (s .queries)) s (acceptedStep s c)
+unfolding step
+step-judged s start = refl
+step-judged s (register number kind range slide) = refl
+step-judged s (withdraw number) = refl
+step-judged s (reading v places) = refl
+step-judged s totals = refl
+
+-- ---- a call's own rows
+
+-- the refusal that a verdict gives
+abbrev refusalIn : Verdict → Refusal
+refusalIn Passed = TableTooShort
+refusalIn (Refused r) = r
+
+-- what holds of every check's refusal holds of the one that is given
+refusal-of : (P : Refusal → Type 0) (cs : List Check) → Each (λ (c : Check). P (c .refusal)) cs → (r : Refusal) → firstRefusal cs ≡ Refused r → P r
+refusal-of P [] h r e = let z : _≡_ {A = ℕ} 0 1 = cc in absurd (omega arith)
+refusal-of P (c ∷ cs) h r e = go (c .applies) e (λ i. refusal-of P cs (h .1) r i)
+  where
+    go : (b : Bool) → cond b (Refused (c .refusal)) (firstRefusal cs) ≡ Refused r → (firstRefusal cs ≡ Refused r → P r) → P r
+    go true i later = subst P (ap refusalIn i) (h .0)
+    go false i later = later i
+
+-- the number of a refusal by a call's own checks is in its rows
+own-row : (c : Call) (n : ℕ) (qs : List Query) (r : Refusal) → verdictOf c n qs ≡ Refused r → InRows c (refusalNumber r)
+unfolding registerChecks fieldChecks listChecks withdrawChecks readingChecks
+own-row start n qs r e = let z : _≡_ {A = ℕ} 0 1 = cc in absurd (omega arith)
+own-row (register number kind range slide) n qs r e =
+    refusal-of (λ (x : Refusal). InRows (register number kind range slide) (refusalNumber x)) (registerChecks qs number kind range slide)
+    (refl, (refl, (refl, (refl, (refl, (refl, tt)))))) r e
+own-row (withdraw number) n qs r e =
+    refusal-of (λ (x : Refusal). InRows (withdraw number) (refusalNumber x)) (withdrawChecks qs number) (refl, tt) r e
+own-row (reading v places) n qs r e =
+    refusal-of (λ (x : Refusal). InRows (reading v places) (refusalNumber x)) (readingChecks n qs places) (refl, (refl, tt)) r e
+own-row totals n qs r e = let z : _≡_ {A = ℕ} 0 1 = cc in absurd (omega arith)
+
+-- ---- refusals
+
+accepted-refused : {X : Type 0} (ns : List ℕ) (given : List Answer) (k : ℕ) → accepted ns given ≡ refused k → X
+accepted-refused ns given k e = let z : _≡_ {A = ℕ} 0 1 = cc in absurd (omega arith)
+
+-- the number of a refused call
+abbrev numberOf : Outcome → ℕ
+numberOf (accepted ns given) = 0
+numberOf (refused k) = k
+
+kept-same : {A : Type 0} (t : List A) → Kept t t
+kept-same t = record { length = refl; beyond = refl }
+
+pub tables-same : (t : Tables) → TablesKept t t
+tables-same t =
+    record {
+      starts = kept-same (t .starts);
+      sums = kept-same (t .sums);
+      maxStarts = kept-same (t .maxStarts);
+      maxValues = kept-same (t .maxValues);
+      minStarts = kept-same (t .minStarts);
+      minValues = kept-same (t .minValues);
+    }
+
+-- the queries and the count on which a call is judged are those of the model
+same-verdict : (c : Call) (s : model.State) (m : Machine) → Represents s m → verdictOf c (m .state .count) (used (m .queries)) ≡ verdictOf c (count s) (s .queries)
+same-verdict c s m rep = rw (rep .state .count, rep .queries .used)
+
+-- a call other than start that any check refuses
+pub refused-call : (c : Call) (m : Machine) (long : Bool) (w : Verdict) (r : Refusal) → InRows c 1 → InRows c 2
+    → long ≡ longEnough (m .tables) → Judged long (m .state) (m .queries) (verdictOf c (m .state .count) (used (m .queries))) w
+    → w ≡ Refused r → Ensures c m (refused (refusalNumber r)) m
+refused-call c m long w r one two same (isShort f) i =
+    let e : longEnough (m .tables) ≡ false = sym same ∙ f in
+    let n : 1 ≡ refusalNumber r = ap (λ (x : Verdict). refusalNumber (refusalIn x)) i in
+    record {
+      short = λ k. ap refused (sym n);
+      broken = λ k d. absurd (true≢false (sym k ∙ e));
+      agrees = λ s rep. absurd (true≢false (sym (rep .long) ∙ e));
+      represents = λ s rep. absurd (true≢false (sym (rep .long) ∙ e));
+      unchanged = λ k j. refl;
+      own = λ k j. subst (InRows c) (n ∙ ap numberOf j) one;
+      kept = tables-same (m .tables);
+    }
+refused-call c m long w r one two same (isDamaged l f) i =
+    let e : longEnough (m .tables) ≡ true = sym same ∙ l in
+    let n : 2 ≡ refusalNumber r = ap (λ (x : Verdict). refusalNumber (refusalIn x)) i in
+    record {
+      short = λ k. absurd (true≢false (sym e ∙ k));
+      broken = λ k d. ap refused (sym n);
+      agrees = λ s rep. absurd (f (represents-intact s m rep));
+      represents = λ s rep. absurd (f (represents-intact s m rep));
+      unchanged = λ k j. refl;
+      own = λ k j. subst (InRows c) (n ∙ ap numberOf j) two;
+      kept = tables-same (m .tables);
+    }
+refused-call c m long w r one two same (isJudged l f) i =
+    let e : longEnough (m .tables) ≡ true = sym same ∙ l in
+    record {
+      short = λ k. absurd (true≢false (sym e ∙ k));
+      broken = λ k d. absurd (true≢false (sym d ∙ f .list));
+      agrees = λ s rep. sym (ap (λ (x : Stepped). x .outcome) (step-refused s rep));
+      represents = λ s rep. subst (λ (x : Stepped). Represents (x .state) m) (sym (step-refused s rep)) rep;
+      unchanged = λ k j. refl;
+      own = λ k j. subst (InRows c) (ap numberOf j) (own-row c (m .state .count) (used (m .queries)) r i);
+      kept = tables-same (m .tables);
+    }
+  where
+    step-refused : (s : model.State) → Represents s m → step s c ≡ record { state = s; outcome = refused (refusalNumber r) }
+    step-refused s rep = step-judged s c ∙ ap (λ (x : Verdict). judged x s (acceptedStep s c)) (sym (same-verdict c s m rep) ∙ i)
+
+-- what a refused call hands back is what it was given
+abbrev refusedWith : Refusal → Machine → Reply
+refusedWith r m = record { verdict = Refused r; state = m .state; queries = m .queries }
+
+pub refused-reply : (c : Call) (m : Machine) (long : Bool) (w : Verdict) (r : Refusal) (reply : Reply) → InRows c 1 → InRows c 2
+    → long ≡ longEnough (m .tables) → Judged long (m .state) (m .queries) (verdictOf c (m .state .count) (used (m .queries))) w
+    → w ≡ Refused r → reply ≡ refusedWith r m → Ensures c m (verdictOutcome (reply .verdict)) (machine (reply .state) (reply .queries) (m .tables))
+refused-reply c m long w r reply one two same j i is =
+    subst (λ (x : Reply). Ensures c m (verdictOutcome (x .verdict)) (machine (x .state) (x .queries) (m .tables))) (sym is)
+    (refused-call c m long w r one two same j i)
+
+-- ---- acceptances
+
+-- tables that are kept are as long as they were
+kept-long : (t t′ : Tables) → TablesKept t t′ → longEnough t ≡ true → longEnough t′ ≡ true
+kept-long t t′ k e =
+    rw (k .starts .length, k .sums .length, k .maxStarts .length, k .maxValues .length, k .minStarts .length, k .minValues .length) e
+
+-- a closing keeps the tables
+pub open-closed-kept : (o : Open) (h : ℕ) (st : State) (t : Tables) (st′ : State) (t′ : Tables) → OpenClosed o h st t st′ t′ → TablesKept t t′
+open-closed-kept Nothing h st t st′ t′ c = subst (TablesKept t) (sym (c .1)) (tables-same t)
+open-closed-kept Empty h st t st′ t′ c = subst (TablesKept t) (sym (c .1)) (tables-same t)
+open-closed-kept (Holding a) h st t st′ t′ c = c .kept
+
+pub closed-where-kept : (b : Bool) (h : ℕ) (st : State) (t : Tables) (st′ : State) (t′ : Tables) → ClosedWhere b h st t st′ t′ → TablesKept t t′
+unfolding ClosedWhere
+closed-where-kept true h st t st′ t′ c = open-closed-kept (st .partial) h st t st′ t′ c
+closed-where-kept false h st t st′ t′ c = subst (TablesKept t) (sym (c .1)) (tables-same t)
+
+-- a call other than start that every check passes
+pub record Passes (c : Call) (m : Machine) : Type 0 where
+  pub long : longEnough (m .tables) ≡ true
+  pub intact : Intact (m .state) (m .queries)
+  pub own : verdictOf c (m .state .count) (used (m .queries)) ≡ Passed
+
+pub passes : (c : Call) (m : Machine) (long : Bool) (w : Verdict) → long ≡ longEnough (m .tables)
+    → Judged long (m .state) (m .queries) (verdictOf c (m .state .count) (used (m .queries))) w → w ≡ Passed → Passes c m
+passes c m long w same j e =
+    let p = judged-passed long (m .state) (m .queries) (verdictOf c (m .state .count) (used (m .queries))) w j e in
+    record { long = sym same ∙ p .0; intact = p .1; own = p .2 }
+
+accepted-call : (c : Call) (m : Machine) (ns : List ℕ) (given : List Answer) (m′ : Machine)
+    → Passes c m
+    → OfReading IsReading c → TablesKept (m .tables) (m′ .tables)
+    → ((s : model.State) → Represents s m → Lists ((acceptedStep s c) .state) (m′ .queries))
+    → ((s : model.State) → Represents s m → StateIs ((acceptedStep s c) .state) (m′ .state) (m′ .tables))
+    → ((s : model.State) → Represents s m → accepted ns given ≡ (acceptedStep s c) .outcome)
+    → Ensures c m (accepted ns given) m′
+accepted-call c m ns given m′ passes small kept lists state outcome =
+    record {
+      short = λ k. absurd (true≢false (sym (passes .long) ∙ k));
+      broken = λ k d. absurd (true≢false (sym d ∙ passes .intact .list));
+      agrees = λ s rep. outcome s rep ∙ sym (ap (λ (x : Stepped). x .outcome) (step-accepted s rep));
+      represents = λ s rep. record {
+        reached = step-invariant s c (rep .reached);
+        readings = step-readings IsReading s c small (rep .readings);
+        long = kept-long (m .tables) (m′ .tables) kept (passes .long);
+        queries = subst (λ (x : Stepped). Lists (x .state) (m′ .queries)) (sym (step-accepted s rep)) (lists s rep);
+        state = subst (λ (x : Stepped). StateIs (x .state) (m′ .state) (m′ .tables)) (sym (step-accepted s rep)) (state s rep);
+      };
+      unchanged = λ k j. accepted-refused ns given k j;
+      own = λ k j. accepted-refused ns given k j;
+      kept = kept;
+    }
+  where
+    step-accepted : (s : model.State) → Represents s m → step s c ≡ acceptedStep s c
+    step-accepted s rep = step-judged s c ∙ ap (λ (x : Verdict). judged x s (acceptedStep s c)) (sym (same-verdict c s m rep) ∙ passes .own)
+
+-- the query that a registration brings to the engine
+abbrev pub joining : (number kind range slide origin : ℕ) → Query
+joining number kind range slide origin = record { number = number; kind = kind; range = range; slide = slide; origin = origin }
+
+pub accepted-register : (number kind range slide : ℕ) (m : Machine) (st′ st″ : State) (l′ : Queries) (t′ : Tables)
+    → Passes (register number kind range slide) m
+    → OpenClosed (m .state .partial) (horizon (m .state .count) (used (m .queries))) (m .state) (m .tables) st′ t′
+    → l′ .count ≡ m .queries .count + 1
+    → used l′ ≡ used (m .queries) ++ (joining number kind range slide (m .state .count) ∷ [])
+    → (Tidy (m .queries) → Tidy l′)
+    → st″ ≡ withPartial Empty st′
+    → Ensures (register number kind range slide) m (accepted (0 ∷ []) []) (machine st″ l′ t′)
+accepted-register number kind range slide m st′ st″ l′ t′ passed closed more joins tidy opened =
+    subst (λ (x : State). Ensures (register number kind range slide) m (accepted (0 ∷ []) []) (machine x l′ t′)) (sym opened)
+    (accepted-call (register number kind range slide) m (0 ∷ []) [] (machine (withPartial Empty st′) l′ t′) passed tt
+    (open-closed-kept (m .state .partial) (horizon (m .state .count) (used (m .queries))) (m .state) (m .tables) st′ t′ closed)
+    (λ s rep.
+    let q : Query = newQuery s number kind range slide in
+    let same : used l′ ≡ s .queries ++ (q ∷ []) =
+    joins ∙ rw (rep .queries .used, rep .state .count) in
+    record {
+      count = more ∙ rw (rep .queries .count, register-queries s q) (sym (length-snoc (s .queries) q));
+      used = same ∙ sym (register-queries s q);
+      tidy = tidy (rep .queries .tidy);
+    })
+    (λ s rep.
+    registered-is s (newQuery s number kind range slide) (m .state) (m .tables) st′ t′ (rep .reached) (rep .state) refl
+    (subst (λ (n : ℕ). OpenClosed (m .state .partial) (horizon n (s .queries)) (m .state) (m .tables) st′ t′) (rep .state .count)
+    (subst (λ (qs : List Query). OpenClosed (m .state .partial) (horizon (m .state .count) qs) (m .state) (m .tables) st′ t′) (rep .queries .used) closed)))
+    (λ s rep. refl))
+  where
+    length-snoc : (qs : List Query) (q : Query) → length (qs ++ (q ∷ [])) ≡ length qs + 1
+    length-snoc qs q = length-append qs (q ∷ [])
+
+pub accepted-withdraw : (number : ℕ) (m : Machine) (st′ : State) (l′ : Queries)
+    → Passes (withdraw number) m
+    → l′ .count ≡ length (used l′)
+    → used l′ ≡ filter (λ (q : Query). not (hasNumber number q)) (used (m .queries))
+    → Tidy l′
+    → st′ ≡ openWhileAny (l′ .count) (m .state)
+    → Ensures (withdraw number) m (accepted (0 ∷ []) []) (machine st′ l′ (m .tables))
+unfolding afterWithdraw
+accepted-withdraw number m st′ l′ passed few leaves tidy left =
+    subst (λ (x : State). Ensures (withdraw number) m (accepted (0 ∷ []) []) (machine x l′ (m .tables))) (sym left)
+    (accepted-call (withdraw number) m (0 ∷ []) [] (machine (openWhileAny (l′ .count) (m .state)) l′ (m .tables)) passed tt
+    (tables-same (m .tables))
+    (λ s rep. record { count = few ∙ ap length (same s rep); used = same s rep; tidy = tidy })
+    (λ s rep.
+    subst (λ (k : ℕ). StateIs (afterWithdraw s number) (openWhileAny k (m .state)) (m .tables)) (sym (few ∙ ap length (same s rep)))
+    (withdrawn-is s number (m .state) (m .tables) (rep .reached) (rep .state)))
+    (λ s rep. refl))
+  where
+    same : (s : model.State) → Represents s m → used l′ ≡ filter (λ (q : Query). not (hasNumber number q)) (s .queries)
+    same s rep = leaves ∙ ap (filter (λ (q : Query). not (hasNumber number q))) (rep .queries .used)
+
+pub accepted-totals : (m : Machine) → Passes totals m
+    → Ensures totals m (accepted (m .state .count ∷ m .state .closed ∷ m .state .maxima .comparisons ∷ m .state .minima .comparisons ∷ []) []) m
+unfolding totalsOf
+accepted-totals m passed =
+    accepted-call totals m _ [] m passed tt (tables-same (m .tables))
+    (λ s rep. rep .queries)
+    (λ s rep. rep .state)
+    (λ s rep. rw (rep .state .count, rep .state .closed, rep .state .maxComparisons, rep .state .minComparisons))
+
+-- ---- a reading
+
+-- a reading that any check refuses writes no place
+pub refused-reading : (v : ℤ) (before : List ℤ) (m : Machine) (long : Bool) (w : Verdict) (r : Refusal)
+    → long ≡ longEnough (m .tables) → Judged long (m .state) (m .queries) (firstRefusal (readingChecks (m .state .count) (used (m .queries)) (length before))) w
+    → w ≡ Refused r → (reply : ReadingReply) → reply ≡ record { outcome = Answered.Refused r; state = m .state }
+    → ReadingEnsures v before before m (readingOutcome (reply .outcome) before) (machine (reply .state) (m .queries) (m .tables))
+refused-reading v before m long w r same j i reply is =
+    subst (λ (x : ReadingReply). ReadingEnsures v before before m (readingOutcome (x .outcome) before) (machine (x .state) (m .queries) (m .tables))) (sym is)
+    (record { ensures = refused-call (reading v (length before)) m long w r refl refl same j i; places = refl; uncut = λ e. refl })
+
+-- after a closing the tables are as long as they were
+pub closed-long : (b : Bool) (h : ℕ) (st : State) (t : Tables) (st′ : State) (t′ : Tables) → ClosedWhere b h st t st′ t′ → longEnough t ≡ true → longEnough t′ ≡ true
+closed-long b h st t st′ t′ c = kept-long t t′ (closed-where-kept b h st t st′ t′ c)
+
+-- the answers that are read from places are those that were written there
+answers-read : (given : List Answer) (rest : List ℤ) → answersIn (length given) (places given ++ rest) ≡ given
+answers-read [] rest = refl
+answers-read (a ∷ more) rest = ap (λ (x : List Answer). a ∷ x) (answers-read more rest)
+
+-- a reading was taken, what was open closed at an edge, and the due queries were answered
+pub record Took (v : ℤ) (before after : List ℤ) (m : Machine) (k : ℕ) (given : List Answer) (st′ : State) (t′ : Tables) : Type 0 where
+  pub closed : ClosedWhere (any (edge (m .state .count + 1)) (used (m .queries))) (horizon (m .state .count + 1) (used (m .queries))) (withReading v (m .state)) (m .tables) st′ t′
+  pub number : length given ≡ k
+  pub written : after ≡ answeredPlaces given before
+  pub answers : InOrder st′ t′ → given ≡ map (answerFrom st′ t′) (dueAt (st′ .count) (used (m .queries)))
+
+pub accepted-reading : (v : ℤ) (before after : List ℤ) (m : Machine) (k : ℕ) (given : List Answer) (st′ : State) (t′ : Tables)
+    → Passes (reading v (length before)) m
+    → IsReading v → Took v before after m k given st′ t′
+    → ReadingEnsures v before after m (accepted (k ∷ []) (answersIn k after)) (machine st′ (m .queries) t′)
+unfolding answered ClosedWhere
+accepted-reading v before after m k given st′ t′ passed small took =
+    record {
+      ensures = accepted-call c m (k ∷ []) (answersIn k after) (machine st′ (m .queries) t′) passed small
+          (closed-where-kept (any (edge (m .state .count + 1)) (used (m .queries))) (horizon (m .state .count + 1) (used (m .queries))) (withReading v (m .state)) (m .tables) st′ t′ (took .closed))
+          (λ s rep. record {
+            count = rep .queries .count ∙ sym (ap length (reading-queries s v));
+            used = rep .queries .used ∙ sym (reading-queries s v);
+            tidy = rep .queries .tidy;
+          })
+          is
+          (λ s rep. rw (reads, same-answers s rep, sym (took .number), same-answers s rep));
+      places = took .written ∙ sym (ap (λ (x : List Answer). answeredPlaces x before) reads);
+      uncut = λ e. (subst (λ (b : Bool). ClosedWhere b (horizon (m .state .count + 1) (used (m .queries))) (withReading v (m .state)) (m .tables) st′ t′) e (took .closed)) .1;
+    }
+  where
+    c : Call
+    c = reading v (length before)
+
+    reads : answersIn k after ≡ given
+    reads = rw (sym (took .number), took .written) (answers-read given (drop (answerPlaces * length given) before))
+
+    is : (s : model.State) → Represents s m → StateIs (afterReading s v) st′ t′
+    is s rep =
+        read-is s v (m .state) (m .tables) st′ t′ (rep .reached) (rep .state)
+        (subst (λ (n : ℕ). ClosedWhere (any (edge (n + 1)) (s .queries)) (horizon (n + 1) (s .queries)) (withReading v (m .state)) (m .tables) st′ t′) (rep .state .count)
+        (subst (λ (qs : List Query). ClosedWhere (any (edge (m .state .count + 1)) qs) (horizon (m .state .count + 1) qs) (withReading v (m .state)) (m .tables) st′ t′) (rep .queries .used) (took .closed)))
+
+    stepped : (s : model.State) → Represents s m → (step s c) .state ≡ afterReading s v
+    stepped s rep =
+        ap (λ (x : Stepped). x .state) (step-judged s c ∙ ap (λ (x : Verdict). judged x s (acceptedStep s c)) (sym (same-verdict c s m rep) ∙ passed .own))
+
+    same-answers : (s : model.State) → Represents s m → given ≡ answers (afterReading s v)
+    same-answers s rep =
+        took .answers (in-order (afterReading s v) st′ t′ (is s rep))
+        ∙ ap (λ (qs : List Query). map (answerFrom st′ t′) (dueAt (st′ .count) qs)) (rep .queries .used ∙ sym (reading-queries s v))
+        ∙ answers-are (afterReading s v) st′ t′ (subst Invariant (stepped s rep) (step-invariant s c (rep .reached))) (is s rep)
+
+-- ---- start
+
+-- a start that check 1 refuses
+pub refused-start : (m : Machine) (reply : Reply) → longEnough (m .tables) ≡ false → reply ≡ refusedWith TableTooShort m
+    → StartEnsures m (verdictOutcome (reply .verdict)) (machine (reply .state) (reply .queries) (m .tables))
+refused-start m reply e is =
+    subst (λ (x : Reply). StartEnsures m (verdictOutcome (x .verdict)) (machine (x .state) (x .queries) (m .tables))) (sym is)
+    (record {
+      short = λ k. refl;
+      accepts = λ k. absurd (true≢false (sym k ∙ e));
+      represents = λ k. absurd (true≢false (sym k ∙ e));
+      zeroes = λ k. absurd (true≢false (sym k ∙ e));
+      unchanged = λ k j. refl;
+      own = λ k j. subst (InRows start) (ap numberOf j) refl;
+    })
+
+-- a table is long enough where its first 4,096 places are 0
+zeroed-long : {A : Type 0} (nought : A) (t : List A) → leb capacity (length (zeroed nought t)) ≡ true
+zeroed-long nought t =
+    le-leb capacity (length (zeroed nought t))
+    (omega (arith, length-append (replicate capacity nought) (drop capacity t), length-replicate capacity nought))
+
+tables-zeroed-long : (t : Tables) → longEnough (zeroedTables t) ≡ true
+unfolding enough
+tables-zeroed-long t =
+    rw (
+      zeroed-long 0 (t .starts),
+      zeroed-long (pos 0) (t .sums),
+      zeroed-long 0 (t .maxStarts),
+      zeroed-long (pos 0) (t .maxValues),
+      zeroed-long 0 (t .minStarts),
+      zeroed-long (pos 0) (t .minValues),
+    )
+
+-- an accepted start
+pub accepted-start : (m : Machine) (st : State) (l : Queries) (t′ : Tables) → longEnough (m .tables) ≡ true → FreshState st
+    → l .count ≡ 0 → used l ≡ [] → Tidy l → t′ ≡ zeroedTables (m .tables)
+    → StartEnsures m (accepted (0 ∷ []) []) (machine st l t′)
+accepted-start m st l t′ long fresh none empty tidy zeroes =
+    record {
+      short = λ k. absurd (true≢false (sym long ∙ k));
+      accepts = λ k. refl;
+      represents = λ k. record {
+        reached = initial-invariant;
+        readings = tt;
+        long = ap longEnough zeroes ∙ tables-zeroed-long (m .tables);
+        queries = record { count = none; used = empty; tidy = tidy };
+        state = fresh-is st t′ fresh;
+      };
+      zeroes = λ k. zeroes;
+      unchanged = λ k j. accepted-refused (0 ∷ []) [] k j;
+      own = λ k j. accepted-refused (0 ∷ []) [] k j;
+    }

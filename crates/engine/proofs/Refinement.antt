@@ -1,0 +1,256 @@
+-- The engine refines the model: what a closing and a reading make of state and tables is what they make of the model's state.
+-- Assumes nothing.
+use mathlib.Core.Path.{_≡_, refl, sym, ap, _∙_, subst}
+use mathlib.Core.Bool.{Bool, true, false, cond}
+use mathlib.Core.Option.{Option, none, some}
+use mathlib.Core.List.{List, [], _∷_, _++_}
+use Prim.Native.Nat.{ℕ, _+_, _≤_, _<_}
+use native.Mathlib.Nat.{le-refl}
+use native.Mathlib.Omega.{arith}
+use lib.IntN.{ℤ, pos, _+ℤ_, +ℤ-assoc}
+use lib.Signed.{leZ}
+use lib.ListN.{length, length-append, drop}
+use lib.Seq.{slice-empty, length-slice, take-length, drop-append-le}
+use borrow.Author.Tests.{le-ltb, lt-ltb}
+use Rattle.window.specs.Lists.{any, Each}
+use Rattle.window.specs.Orders.{aggregate, Order, greater, geZ, sum, extreme, maximum, minimum}
+use Rattle.window.specs.Queries.{Limits, edge, horizon}
+use Rattle.window.specs.Partials.{Partial, spanning, Entry, between, entry, entries, partialsFrom}
+use Rattle.window.specs.Standing.{standing, evicted}
+use Rattle.window.specs.Model as model
+use Rattle.window.specs.Model.{count, closingComparisons, closeAt, closeWhere, holdsReading, appended, closeAtEdge, afterReading}
+use Rattle.window.specs.Invariant.{Ordered, Shape, Invariant}
+use Rattle.window.proofs.Orders.{leZ-order, geZ-order, greater-assoc, aggregate-append}
+use Rattle.window.proofs.Queries.{horizon-far, horizon-later}
+use Rattle.deque.specs.declared.extremes.Deque.{Deque}
+use Rattle.deque.specs.Rings.{capacity, entryWith, newest}
+use Rattle.deque.specs.Extremes.{closedWith, closingCost}
+use Rattle.deque.specs.Retained.{Retained}
+use Rattle.deque.proofs.Bridge.{room, retained-later, retained-rises, retained-closed, retained-stable, closed-entries, closed-standing, model-cost}
+use Rattle.engine.specs.declared.partial.Aggregate.{Aggregate}
+use Rattle.engine.specs.declared.partial.Open.{Open}
+use Rattle.engine.specs.declared.partial.Open.the-variants.{Nothing, Empty, Holding}
+use Rattle.engine.specs.declared.state.State.{State}
+use Rattle.engine.specs.Open.{openWith}
+use Rattle.engine.specs.States.{Tables, withReading, DequeClosed, Closed, OpenClosed, ClosedWhere}
+use Rattle.engine.specs.Machine.{HoldingIs, OpenIs, StandsOn, Holds, StateIs}
+
+-- ---- a closing
+
+-- an open partial that holds readings is the model's
+pub holding-is : (s : model.State) (st : State) (t : Tables) (a : Aggregate) → StateIs s st t → st .partial ≡ Holding a → HoldingIs a s
+holding-is s st t a i e = subst (λ (o : Open). OpenIs o s) e (i .partial)
+
+module _ (below : ℤ → ℤ → Bool) (order : Order below) (s : model.State) (held : List Partial) (p : Partial) (y : Entry ℤ) (starts : List ℕ) (values : List ℤ) (d : Deque)
+    (starts′ : List ℕ) (values′ : List ℤ) (d′ : Deque)
+    (kept : Retained (horizon (count s) (s .queries)) (s .closed) held (count s)) (same : y ≡ entry (extreme below) (s .readings) p)
+    (stood : StandsOn below (s .readings) held starts values d)
+    (done : DequeClosed below y (horizon (count s) (s .queries)) starts values d starts′ values′ d′) where
+  -- after the closing of p a deque holds what stands of the live partials and p
+  deque-stands : length (partialsFrom (horizon (count s) (s .queries)) (s .closed)) < capacity
+      → StandsOn below (s .readings) (partialsFrom (horizon (count s) (s .queries)) (s .closed) ++ (p ∷ [])) starts′ values′ d′
+  deque-stands l =
+      let h : ℕ = horizon (count s) (s .queries) in
+      record {
+        fits = done .fits;
+        entries =
+            done .entries
+            ∙ ap (closedWith below y h) (stood .entries)
+            ∙ ap (λ (x : Entry ℤ). closedWith below x h (standing below (entries (extreme below) (s .readings) held))) same
+            ∙ closed-standing below order (extreme below) (s .readings) h (s .closed) held (count s) kept p l;
+      }
+
+  -- and its comparisons grew by those of the model's closing
+  deque-total : d′ .comparisons ≡ d .comparisons + closingComparisons below s p
+  deque-total =
+      let h : ℕ = horizon (count s) (s .queries) in
+      done .cost
+      ∙ ap (λ (xs : List (Entry ℤ)). d .comparisons + closingCost below y h xs) (stood .entries)
+      ∙ ap (λ (x : Entry ℤ). d .comparisons + closingCost below x h (standing below (entries (extreme below) (s .readings) held))) same
+      ∙ ap (λ (k : ℕ). d .comparisons + k) (model-cost below order s held (count s) p kept)
+
+-- the closing of the open partial is the model's
+pub closed-is : (s : model.State) (a : Aggregate) (st : State) (t : Tables) (st′ : State) (t′ : Tables) → StateIs s st t → st .partial ≡ Holding a
+    → Each Limits (s .queries) → Ordered 0 (s .closed) (a .start) → Closed a (horizon (count s) (s .queries)) st t st′ t′
+    → StateIs (closeAt s (a .start)) st′ t′
+unfolding closeAt
+closed-is s a st t st′ t′ i e g o c =
+    let h : ℕ = horizon (count s) (s .queries) in
+    let p : Partial = spanning (a .start) (count s) in
+    let b : Holds s st t = i .board in
+    let same : HoldingIs a s = holding-is s st t a i e in
+    let l : length (partialsFrom h (s .closed)) < capacity = room h (s .closed) (a .start) (count s) o (same .holds) (horizon-far (count s) (s .queries) g) in
+    let greatest : entryWith (a .start) (a .maximum) ≡ entry (extreme leZ) (s .readings) p = ap (entryWith (a .start)) (same .maximum) in
+    let least : entryWith (a .start) (a .minimum) ≡ entry (extreme geZ) (s .readings) p = ap (entryWith (a .start)) (same .minimum) in
+    record {
+      count = c .count ∙ i .count;
+      closed = c .closed ∙ ap (λ (k : ℕ). k + 1) (i .closed) ∙ sym (length-append (s .closed) (p ∷ []));
+      maxComparisons =
+          deque-total leZ leZ-order s (b .held) p (entryWith (a .start) (a .maximum)) (t .maxStarts) (t .maxValues) (st .maxima) (t′ .maxStarts) (t′ .maxValues) (st′ .maxima) (b .retained) greatest (b .maxima) (c .maxima)
+          ∙ ap (λ (k : ℕ). k + closingComparisons leZ s p) (i .maxComparisons);
+      minComparisons =
+          deque-total geZ geZ-order s (b .held) p (entryWith (a .start) (a .minimum)) (t .minStarts) (t .minValues) (st .minima) (t′ .minStarts) (t′ .minValues) (st′ .minima) (b .retained) least (b .minima) (c .minima)
+          ∙ ap (λ (k : ℕ). k + closingComparisons geZ s p) (i .minComparisons);
+      partial = subst (λ (x : Open). OpenIs x (closeAt s (a .start))) (sym (c .partial)) refl;
+      board =
+          record {
+            held = partialsFrom h (s .closed) ++ (p ∷ []);
+            retained = retained-closed h (s .closed) (a .start) (count s) (same .holds) o;
+            fits = c .fits;
+            sums =
+                c .sums
+                ∙ ap (λ (xs : List (Entry ℤ)). newest capacity (evicted h xs ++ (entryWith (a .start) (a .sum) ∷ []))) (b .sums)
+                ∙ ap (λ (v : ℤ). newest capacity (evicted h (entries sum (s .readings) (b .held)) ++ (entryWith (a .start) v ∷ []))) (same .sum)
+                ∙ closed-entries sum (s .readings) h (s .closed) (b .held) (count s) (b .retained) p l;
+            bounds = c .bounds (b .bounds);
+            maxima = deque-stands leZ leZ-order s (b .held) p (entryWith (a .start) (a .maximum)) (t .maxStarts) (t .maxValues) (st .maxima) (t′ .maxStarts) (t′ .maxValues) (st′ .maxima) (b .retained) greatest (b .maxima) (c .maxima) l;
+            minima = deque-stands geZ geZ-order s (b .held) p (entryWith (a .start) (a .minimum)) (t .minStarts) (t .minValues) (st .minima) (t′ .minStarts) (t′ .minValues) (st′ .minima) (b .retained) least (b .minima) (c .minima) l;
+          };
+    }
+
+module _ (s : model.State) (st : State) (t : Tables) (st′ : State) (t′ : Tables) (i : StateIs s st t) where
+  -- where neither state nor tables change, they are the model's as they were
+  unchanged-is : (st′ ≡ st) × (t′ ≡ t) → StateIs s st′ t′
+  unchanged-is e = subst (λ (x : State). StateIs s x t′) (sym (e .0)) (subst (λ (x : Tables). StateIs s st x) (sym (e .1)) i)
+
+  -- what is open closes where it holds a reading, as in the model
+  pub open-closed-is : Each Limits (s .queries) → ((a : ℕ) → s .openStart ≡ some a → Ordered 0 (s .closed) a)
+      → OpenClosed (st .partial) (horizon (count s) (s .queries)) st t st′ t′
+      → StateIs (closeWhere (holdsReading (count s) (s .openStart)) (s .openStart) s) st′ t′
+  unfolding closeWhere
+  open-closed-is g o c = go (st .partial) refl (i .partial) c
+    where
+      n : ℕ
+      n = count s
+
+      -- the state that the model comes to, by what is open in it and by whether that holds a reading
+      at-start : (x : Option ℕ) → s .openStart ≡ x → StateIs (closeWhere (holdsReading n x) x s) st′ t′
+          → StateIs (closeWhere (holdsReading n (s .openStart)) (s .openStart) s) st′ t′
+      at-start x e k = subst (λ (y : Option ℕ). StateIs (closeWhere (holdsReading n y) y s) st′ t′) (sym e) k
+
+      go : (x : Open) → st .partial ≡ x → OpenIs x s → OpenClosed x (horizon n (s .queries)) st t st′ t′
+          → StateIs (closeWhere (holdsReading n (s .openStart)) (s .openStart) s) st′ t′
+      go Nothing e k d = at-start none k (unchanged-is d)
+      go Empty e k d =
+          at-start (some n) k (subst (λ (b : Bool). StateIs (cond b (closeAt s n) s) st′ t′) (sym (le-ltb n n (le-refl n))) (unchanged-is d))
+      go (Holding a) e k d =
+          at-start (some (a .start)) (k .start)
+          (subst (λ (b : Bool). StateIs (cond b (closeAt s (a .start)) s) st′ t′) (sym (lt-ltb (a .start) n (k .holds)))
+          (closed-is s a st t st′ t′ i e g (o (a .start) (k .start)) d))
+
+-- ---- a reading
+
+-- one reading more, at the end of the readings after a
+between-snoc : (rs : List ℤ) (v : ℤ) (a : ℕ) → a ≤ length rs
+    → between (rs ++ (v ∷ [])) a (length (rs ++ (v ∷ []))) ≡ between rs a (length rs) ++ (v ∷ [])
+between-snoc rs v a l =
+    ap (drop a) (take-length (rs ++ (v ∷ [])))
+    ∙ drop-append-le a rs (v ∷ []) l
+    ∙ ap (λ (xs : List ℤ). drop a xs ++ (v ∷ [])) (sym (take-length rs))
+
+module _ (s : model.State) (v : ℤ) where
+  -- n grows by one
+  pub appended-count : count (appended s v) ≡ count s + 1
+  unfolding appended
+  appended-count = length-append (s .readings) (v ∷ [])
+
+  -- of an open partial that holds readings, the aggregate with the new one
+  aggregate-more : (op : ℤ → ℤ → ℤ) → ((x y z : ℤ) → op (op x y) z ≡ op x (op y z)) → (a : ℕ) → a < count s
+      → op (aggregate op (pos 0) (between (s .readings) a (count s))) v ≡ aggregate op (pos 0) (between ((appended s v) .readings) a (count (appended s v)))
+  unfolding appended
+  aggregate-more op assoc a l =
+      let xs : List ℤ = between (s .readings) a (count s) in
+      let some-read : 0 < length xs = rw (length-slice a (count s) (s .readings) (le-refl (count s))) (omega arith) in
+      sym (ap (aggregate op (pos 0)) (between-snoc (s .readings) v a (omega arith)) ∙ aggregate-append op (pos 0) assoc xs (v ∷ []) some-read (omega arith))
+
+  -- the reading joins what is open
+  open-appended : (o : Open) → OpenIs o s → OpenIs (openWith (count s) v o) (appended s v)
+  unfolding appended
+  open-appended Nothing e = e
+  open-appended Empty e =
+      let alone : v ∷ [] ≡ between (s .readings ++ (v ∷ [])) (count s) (length (s .readings ++ (v ∷ []))) =
+      sym (between-snoc (s .readings) v (count s) (le-refl (count s)) ∙ ap (λ (xs : List ℤ). xs ++ (v ∷ [])) (slice-empty (count s) (s .readings))) in
+      record { start = e; holds = omega (arith, appended-count); sum = ap sum alone; maximum = ap maximum alone; minimum = ap minimum alone }
+  open-appended (Holding a) h =
+      record {
+        start = h .start;
+        holds = omega (arith, appended-count, h .holds);
+        sum = ap (λ (x : ℤ). x +ℤ v) (h .sum) ∙ aggregate-more _+ℤ_ +ℤ-assoc (a .start) (h .holds);
+        maximum = ap (λ (x : ℤ). greater leZ x v) (h .maximum) ∙ aggregate-more (greater leZ) (greater-assoc leZ leZ-order) (a .start) (h .holds);
+        minimum = ap (λ (x : ℤ). greater geZ x v) (h .minimum) ∙ aggregate-more (greater geZ) (greater-assoc geZ geZ-order) (a .start) (h .holds);
+      }
+
+  -- a deque is not touched: what it holds stands with one reading more
+  stands-appended : (below : ℤ → ℤ → Bool) (h : ℕ) (held : List Partial) (starts : List ℕ) (values : List ℤ) (d : Deque) → Retained h (s .closed) held (count s)
+      → StandsOn below (s .readings) held starts values d → StandsOn below (s .readings ++ (v ∷ [])) held starts values d
+  stands-appended below h held starts values d r k =
+      record {
+        fits = k .fits;
+        entries = k .entries ∙ ap (standing below) (sym (retained-stable (extreme below) (s .readings) (v ∷ []) h (s .closed) held (count s) (le-refl (count s)) r));
+      }
+
+  -- the state with the reading is the model's
+  pub appended-is : (st : State) (t : Tables) → StateIs s st t → StateIs (appended s v) (withReading v st) t
+  unfolding appended
+  appended-is st t i =
+      let h : ℕ = horizon (count s) (s .queries) in
+      let h′ : ℕ = horizon (length (s .readings ++ (v ∷ []))) (s .queries) in
+      let b : Holds s st t = i .board in
+      let further : h ≤ h′ = rw appended-count (horizon-later (count s) (s .queries)) in
+      record {
+        count = ap (λ (k : ℕ). k + 1) (i .count) ∙ sym appended-count;
+        closed = i .closed;
+        maxComparisons = i .maxComparisons;
+        minComparisons = i .minComparisons;
+        partial = subst (λ (k : ℕ). OpenIs (openWith k v (st .partial)) (appended s v)) (sym (i .count)) (open-appended (st .partial) (i .partial));
+        board =
+            record {
+              held = b .held;
+              retained =
+                  retained-rises h h′ (s .closed) (b .held) (length (s .readings ++ (v ∷ []))) further
+                  (retained-later h (s .closed) (b .held) (count s) (length (s .readings ++ (v ∷ []))) (omega (arith, appended-count)) (b .retained));
+              fits = b .fits;
+              sums = b .sums ∙ sym (retained-stable sum (s .readings) (v ∷ []) h (s .closed) (b .held) (count s) (le-refl (count s)) (b .retained));
+              bounds = b .bounds;
+              maxima = stands-appended leZ h (b .held) (t .maxStarts) (t .maxValues) (st .maxima) (b .retained) (b .maxima);
+              minima = stands-appended geZ h (b .held) (t .minStarts) (t .minValues) (st .minima) (b .retained) (b .minima);
+            };
+      }
+
+-- the closed partials are over by the start of the open one, and that is at most n
+pub open-start : (s : model.State) → Invariant s → (a : ℕ) → s .openStart ≡ some a → Ordered 0 (s .closed) a × (a ≤ count s)
+open-start s i a e =
+    let k : Shape (some a) (count s) (s .queries) (s .closed) = subst (λ (o : Option ℕ). Shape o (count s) (s .queries) (s .closed)) e (i .shape) in
+    (k .1, k .0)
+
+-- after a reading what is open holds one, so an edge closes it
+close-holding : (n : ℕ) (o : Option ℕ) (s : model.State) → ((a : ℕ) → o ≡ some a → a < n) → closeWhere (holdsReading n o) o s ≡ closeWhere true o s
+unfolding closeWhere
+close-holding n none s l = refl
+close-holding n (some a) s l = ap (λ (b : Bool). cond b (closeAt s a) s) (lt-ltb a n (l a refl))
+
+-- and no edge closes nothing
+close-not : (o : Option ℕ) (s : model.State) → closeWhere false o s ≡ s
+unfolding closeWhere
+close-not none s = refl
+close-not (some a) s = refl
+
+-- what a reading makes of state and tables is the model's
+pub read-is : (s : model.State) (v : ℤ) (st : State) (t : Tables) (st′ : State) (t′ : Tables) → Invariant s → StateIs s st t
+    → ClosedWhere (any (edge (count s + 1)) (s .queries)) (horizon (count s + 1) (s .queries)) (withReading v st) t st′ t′
+    → StateIs (afterReading s v) st′ t′
+unfolding afterReading closeAtEdge appended ClosedWhere
+read-is s v st t st′ t′ i r c =
+    subst (λ (n : ℕ). StateIs (closeWhere (any (edge n) (s .queries)) (s .openStart) (appended s v)) st′ t′) (sym (appended-count s v))
+    (go (any (edge (count s + 1)) (s .queries)) c)
+  where
+    later : StateIs (appended s v) (withReading v st) t
+    later = appended-is s v st t r
+
+    go : (b : Bool) → ClosedWhere b (horizon (count s + 1) (s .queries)) (withReading v st) t st′ t′ → StateIs (closeWhere b (s .openStart) (appended s v)) st′ t′
+    go true d =
+        subst (λ (x : model.State). StateIs x st′ t′)
+        (close-holding (count (appended s v)) (s .openStart) (appended s v) (λ a e. omega (arith, (open-start s i a e) .1, appended-count s v)))
+        (open-closed-is (appended s v) (withReading v st) t st′ t′ later (i .withinLimits .limits) (λ a e. (open-start s i a e) .0)
+        (subst (λ (n : ℕ). OpenClosed ((withReading v st) .partial) (horizon n (s .queries)) (withReading v st) t st′ t′) (sym (appended-count s v)) d))
+    go false d = subst (λ (x : model.State). StateIs x st′ t′) (sym (close-not (s .openStart) (appended s v))) (unchanged-is (appended s v) (withReading v st) t st′ t′ later d)

@@ -1,0 +1,159 @@
+-- What check 2 gives: a state that passes it is ready for a closing, also with one reading more; and state and queries that are the model's pass
+-- it.
+-- Assumes nothing.
+use mathlib.Core.Path.{_≡_, sym, ap, _∙_, subst}
+use mathlib.Core.Bool.{false}
+use mathlib.Core.List.{List, [], _∷_}
+use Prim.Native.Nat.{ℕ, zero, suc, _+_, _-_, _*_, _≤_, _<_}
+use native.Mathlib.Nat.{le-refl}
+use native.Mathlib.Omega.{arith}
+use lib.IntN.{ℤ, _+ℤ_}
+use lib.ListN.{length, take, drop}
+use lib.Seq.{length-slice}
+use Rattle.ints.specs.Sizes.{Small}
+use Rattle.ints.proofs.Sizes.{small-more, small-add, small-reading}
+use Rattle.window.specs.Lists.{Each}
+use Rattle.window.specs.Orders.{sum}
+use Rattle.window.specs.Queries.{countLimit}
+use Rattle.window.specs.Partials.{between}
+use Rattle.window.specs.Refusals.{damaged}
+use Rattle.window.specs.Calls.{IsReading}
+use Rattle.window.specs.Model as model
+use Rattle.window.specs.Model.{count}
+use Rattle.window.specs.Invariant.{Bounded, Invariant}
+use Rattle.window.proofs.Tiling.{ordered-count}
+use Rattle.window.proofs.Bounds.{bounded, sum-bound}
+use Rattle.deque.specs.Sums.{sumLimit}
+use Rattle.registry.specs.declared.queries.Queries.{Queries}
+use Rattle.registry.specs.Records.{used}
+use Rattle.engine.specs.declared.partial.Aggregate.{Aggregate}
+use Rattle.engine.specs.declared.partial.Open.{Open}
+use Rattle.engine.specs.declared.partial.Open.the-variants.{Nothing, Empty, Holding}
+use Rattle.engine.specs.declared.state.State.{State}
+use Rattle.engine.specs.Open.{readingSize, sizeLimit, openWith, FitsAggregate, FitsOpen}
+use Rattle.engine.specs.States.{Tables, Sound, Intact, withReading, Ready}
+use Rattle.engine.specs.Machine.{Machine, OpenIs, Holds, Lists, StateIs, Represents}
+use Rattle.engine.proofs.Refinement.{open-start}
+
+-- ---- the open partial's sum
+
+-- where a partial that holds readings is open, its sum is at most b in size
+abbrev SmallOpen : ℕ → Open → Type 0
+SmallOpen b Nothing = Unit {0}
+SmallOpen b Empty = Unit {0}
+SmallOpen b (Holding a) = Small b (a .sum)
+
+-- of fewer than 4,096 readings it is at most 2^43
+fits-small : (n closed : ℕ) (a : Aggregate) → FitsAggregate n closed a → Small sizeLimit (a .sum)
+fits-small n closed a f = small-more ((n - a .start) * readingSize) sizeLimit (a .sum) (omega arith) (f .small)
+
+-- and with one reading more it is within the bound that the rings ask
+with-small : (n closed : ℕ) (v : ℤ) → IsReading v → (o : Open) → FitsOpen n closed o → SmallOpen sumLimit (openWith n v o)
+with-small n closed v r Nothing f = tt
+with-small n closed v r Empty f = small-more readingSize sumLimit v (omega arith) (small-reading v r)
+with-small n closed v r (Holding a) f =
+    small-more (sizeLimit + readingSize) sumLimit (a .sum +ℤ v) (omega arith) (small-add sizeLimit readingSize (a .sum) v (fits-small n closed a f) (small-reading v r))
+
+-- ---- a state that passes check 2
+
+module _ (st : State) (ok : Sound st) where
+  -- an open partial that holds readings fits
+  holding-fits : (a : Aggregate) → st .partial ≡ Holding a → FitsAggregate (st .count) (st .closed) a
+  holding-fits a e = subst (FitsOpen (st .count) (st .closed)) e (ok .partial)
+
+  -- so a reading can join it
+  pub holding-small : (a : Aggregate) → st .partial ≡ Holding a → Small sizeLimit (a .sum)
+  holding-small a e = fits-small (st .count) (st .closed) a (holding-fits a e)
+
+  -- it is ready for a closing
+  pub sound-ready : st .count ≤ countLimit → Ready st
+  sound-ready l =
+      record {
+        sums = ok .sums;
+        maxRing = ok .maxRing;
+        maxTotal = omega (arith, ok .maxTotal, ok .early);
+        minRing = ok .minRing;
+        minTotal = omega (arith, ok .minTotal, ok .early);
+        partial = λ a e.
+            let f : FitsAggregate (st .count) (st .closed) a = holding-fits a e in
+            (small-more sizeLimit sumLimit (a .sum) (omega arith) (holding-small a e), omega (arith, f .after, f .holds));
+      }
+
+  -- and so it is with one reading more
+  pub sound-taken : (v : ℤ) → st .count < countLimit → IsReading v → Ready (withReading v st)
+  sound-taken v l r =
+      record {
+        sums = ok .sums;
+        maxRing = ok .maxRing;
+        maxTotal = omega (arith, ok .maxTotal, ok .early);
+        minRing = ok .minRing;
+        minTotal = omega (arith, ok .minTotal, ok .early);
+        partial = λ a e.
+            (subst (SmallOpen sumLimit) e (with-small (st .count) (st .closed) v r (st .partial) (ok .partial)), omega (arith, ok .early));
+      }
+
+-- ---- what represents the model passes check 2
+
+-- what holds of every element holds of the first n
+each-take : {A : Type 0} (P : A → Type 0) (n : ℕ) (xs : List A) → Each P xs → Each P (take n xs)
+each-take P zero xs h = tt
+each-take P (suc n) [] h = tt
+each-take P (suc n) (x ∷ xs) h = (h .0, each-take P n xs (h .1))
+
+-- and of those after the first n
+each-drop : {A : Type 0} (P : A → Type 0) (n : ℕ) (xs : List A) → Each P xs → Each P (drop n xs)
+each-drop P zero xs h = h
+each-drop P (suc n) [] h = tt
+each-drop P (suc n) (x ∷ xs) h = each-drop P n xs (h .1)
+
+-- the sum of the readings from a + 1 to n is at most n - a readings in size
+stretch-small : (rs : List ℤ) (a : ℕ) → Each IsReading rs → Small ((length rs - a) * readingSize) (sum (between rs a (length rs)))
+stretch-small rs a h =
+    subst (λ (k : ℕ). Small (k * readingSize) (sum (between rs a (length rs)))) (length-slice a (length rs) rs (le-refl (length rs)))
+    (sum-bound (between rs a (length rs)) (each-drop IsReading a (take (length rs) rs) (each-take IsReading (length rs) rs h)))
+
+module _ (s : model.State) (v : Invariant s) (readings : Each IsReading (s .readings)) where
+  -- what is open in the model fits
+  open-fits : (o : Open) → OpenIs o s → FitsOpen (count s) (length (s .closed)) o
+  open-fits Nothing h = tt
+  open-fits Empty h = tt
+  open-fits (Holding a) h =
+      record {
+        after = omega (arith, ordered-count 0 (s .closed) (a .start) ((open-start s v (a .start) (h .start)) .0));
+        holds = h .holds;
+        short = (bounded s v) .openShort (a .start) (h .start);
+        small = subst (Small ((count s - a .start) * readingSize)) (sym (h .sum)) (stretch-small (s .readings) (a .start) readings);
+      }
+
+  -- a state that is the model's is sound
+  pub state-sound : (st : State) (t : Tables) → StateIs s st t → Sound st
+  state-sound st t i =
+      let b : Holds s st t = i .board in
+      let k : Bounded s = bounded s v in
+      record {
+        early = omega (arith, i .count, i .closed, k .closedCount);
+        sums = b .fits;
+        maxRing = b .maxima .fits;
+        maxTotal = omega (arith, i .maxComparisons, i .closed, k .maxima);
+        minRing = b .minima .fits;
+        minTotal = omega (arith, i .minComparisons, i .closed, k .minima);
+        partial =
+            subst (λ (n : ℕ). FitsOpen n (st .closed) (st .partial)) (sym (i .count))
+            (subst (λ (c : ℕ). FitsOpen (count s) c (st .partial)) (sym (i .closed)) (open-fits (st .partial) (i .partial)));
+      }
+
+  -- queries that are the model's are not damaged
+  pub list-intact : (n : ℕ) (l : Queries) → n ≡ count s → Lists s l → damaged n (l .count) (used l) ≡ false
+  list-intact n l e k =
+      ap (λ (m : ℕ). damaged m (l .count) (used l)) e
+      ∙ ap (λ (c : ℕ). damaged (count s) c (used l)) (k .count)
+      ∙ ap (damaged (count s) (length (s .queries))) (k .used)
+      ∙ (bounded s v) .notDamaged
+
+-- what represents a state of the model passes check 2
+pub represents-intact : (s : model.State) (m : Machine) → Represents s m → Intact (m .state) (m .queries)
+represents-intact s m r =
+    record {
+      list = list-intact s (r .reached) (r .readings) (m .state .count) (m .queries) (r .state .count) (r .queries);
+      state = state-sound s (r .reached) (r .readings) (m .state) (m .tables) (r .state);
+    }

@@ -1,0 +1,190 @@
+-- `reading` meets its contract: a check refuses it, or it is taken, what is open closes at an edge, and the due queries are answered.
+-- Assumes nothing.
+use mathlib.Core.Path.{_≡_, sym, ap, _∙_, subst}
+use mathlib.Core.Bool.{true}
+use Prim.Native.Nat.{ℕ, _<_, _≤_}
+use borrow.Author.Needs.{needs}
+use lib.IntN.{ℤ}
+use lib.ListN.{length}
+use mir.Facts.{toZ-ofZ}
+use Rattle.window.specs.declared.query.Query.{Query}
+use Rattle.window.specs.Lists.{Each}
+use Rattle.window.specs.Queries.{Limits}
+use Rattle.window.specs.Calls as calls
+use Rattle.window.proofs.Refusals.{Counts, reading-passed}
+use Rattle.registry.specs.Records.{recordLimit, used}
+use Rattle.registry.proofs.Judged.{intact-few, intact-limits, intact-origins}
+use Rattle.engine.specs.Machine.{Machine, machine}
+use Rattle.engine.specs.States.{tables, Ready, withReading}
+use Rattle.engine.proofs.Taking.{taken-ready, taken-count, taken-origins, taken-closed, Left, closed-left, due-fit}
+use Rattle.engine.proofs.Promises.{refused-reading, Passes, passes, accepted-reading, closed-long}
+use Rattle.engine.proofs.calls.reading.Statement.{statement}
+use Rattle.engine.proofs.calls.reading.Tie as tie
+use Rattle.engine.proofs.calls.reading.Reads as reads
+use Rattle.engine.proofs.calls.reading.Lts as lts
+
+-- state, list and tables as they were handed over
+abbrev given : tie.Start → Machine
+given s =
+    machine (s .args .state) (s .args .queries)
+    (tables (s .args .starts .now) (s .args .sums .now) (s .args .max-starts .now) (s .args .max-values .now) (s .args .min-starts .now) (s .args .min-values .now))
+
+-- the call
+abbrev asked : tie.Start → calls.Call
+asked s = calls.reading (s .args .value) (length (s .args .answers .now))
+
+abbrev began : tie.After-judge-reading → tie.Start
+began j = j .before .before .before .before .before
+
+abbrev begun : tie.After-enum-told → tie.Start
+begun c = began (c .before .before)
+
+-- every check passes
+checked : (c : tie.After-enum-told) → Passes (asked (begun c)) (given (begun c))
+checked c =
+    let j = c .before .before in
+    passes (asked (began j)) (given (began j)) _ _ (j .before .enough .ensures) (j .judge-reading .ensures) (c .enum-told .given .1)
+
+-- so n can grow, and the answers fit their table
+counts : (c : tie.After-enum-told) → Counts (begun c .args .state .count) (used (begun c .args .queries)) (length (begun c .args .answers .now))
+counts c = let s = begun c in reading-passed (s .args .state .count) (used (s .args .queries)) (length (s .args .answers .now)) (checked c .own)
+
+-- what holds of the list
+few : (c : tie.After-enum-told) → begun c .args .queries .count ≤ recordLimit
+few c = let a = begun c .args in intact-few (a .state .count) (a .queries .count) (used (a .queries)) (checked c .intact .list)
+
+limits : (c : tie.After-enum-told) → Each Limits (used (begun c .args .queries))
+limits c = let a = begun c .args in intact-limits (a .state .count) (a .queries .count) (used (a .queries)) (checked c .intact .list)
+
+origins : (c : tie.After-enum-told) → Each (λ (q : Query). q .origin ≤ begun c .args .state .count) (used (begun c .args .queries))
+origins c = let a = begun c .args in intact-origins (a .state .count) (a .queries .count) (used (a .queries)) (checked c .intact .list)
+
+-- the place after the reading was taken, from that before the closing
+abbrev told : tie.After-close-at-edge-arg6 → tie.After-with-reading
+told c = c .before .before .before .before .before .before
+
+-- the state is that with the reading
+is : (w : tie.After-with-reading) → w .with-reading .result ≡ withReading (begun (w .before) .args .value) (begun (w .before) .args .state)
+is w = let s = begun (w .before) in w .with-reading .ensures ∙ ap (λ (z : ℤ). withReading z (s .args .state)) (toZ-ofZ (s .fits .value))
+
+-- and ready for a closing
+ready : (w : tie.After-with-reading) → Ready (w .with-reading .result)
+ready w =
+    let e = w .before in
+    let s = begun e in
+    taken-ready (s .args .value) (s .args .state) (w .with-reading .result) (is w) (checked e .intact .state) (counts e .room) (s .fits .value)
+
+-- the place after the closing, from that before the answers
+abbrev closing : tie.After-answer-due-arg7 → tie.After-close-at-edge
+closing c = c .before .before .before .before .before .before .before .before .before .before .before .before .before .before .before .before
+
+-- what is left after it
+left : (d : tie.After-close-at-edge) → Left (told (d .before) .with-reading .result) (d .close-at-edge .result)
+left d = closed-left _ _ _ _ _ _ (ready (told (d .before))) (d .close-at-edge .ensures)
+
+enough-requires : tie.Need-enough-requires
+enough-requires c κs = search needs
+
+judge-reading-requires : tie.Need-judge-reading-requires
+judge-reading-requires c κs = search needs
+
+enum-known-refusal : tie.Need-enum-known-refusal
+enum-known-refusal c = search needs
+
+refused-reading-requires : tie.Need-refused-reading-requires
+refused-reading-requires c κs = search needs
+
+returns : tie.Need-returns
+returns c =
+    let j = c .before .before .before .before in
+    let s = began j in
+    refused-reading (s .args .value) (s .args .answers .now) (given s) _ _ _ (j .before .enough .ensures) (j .judge-reading .ensures) (c .before .before .refusal .given .1) _ (c .refused-reading .ensures)
+
+enum-told : tie.Need-enum-told
+enum-told c = search needs
+
+with-reading-requires : tie.Need-with-reading-requires
+with-reading-requires c κs = (checked c .intact .state, counts c .room)
+
+close-at-edge-requires : tie.Need-close-at-edge-requires
+close-at-edge-requires c κs =
+    let w = told c in
+    let e = w .before in
+    let q = begun e .args .queries in
+    (ready w, few e, limits e, taken-origins (begun e .args .value) (begun e .args .state) (w .with-reading .result) (is w) (used q) (origins e), checked e .long)
+
+answer-due-requires : tie.Need-answer-due-requires
+answer-due-requires c κs =
+    let d = closing c in
+    let w = told (d .before) in
+    let e = w .before in
+    let a = begun e .args in
+    let l = left d in (
+      l .sums,
+      l .maxRing,
+      l .minRing,
+      few e,
+      limits e,
+      subst (λ (k : ℕ). Each (λ (q : Query). q .origin ≤ k) (used (a .queries))) (sym (l .count))
+          (taken-origins (a .value) (a .state) (w .with-reading .result) (is w) (used (a .queries)) (origins e)),
+      due-fit (a .state .count) _ _ (used (a .queries)) (l .count ∙ taken-count (a .value) (a .state) (w .with-reading .result) (is w)) (counts e .answersFit),
+      closed-long _ _ _ _ _ _ (d .close-at-edge .ensures) (checked e .long),
+    )
+
+same-length : tie.Need-same-length
+same-length c = search needs
+
+same-length-2 : tie.Need-same-length-2
+same-length-2 c = search needs
+
+same-length-3 : tie.Need-same-length-3
+same-length-3 c = search needs
+
+same-length-4 : tie.Need-same-length-4
+same-length-4 c = search needs
+
+same-length-5 : tie.Need-same-length-5
+same-length-5 c = search needs
+
+same-length-6 : tie.Need-same-length-6
+same-length-6 c = search needs
+
+same-length-7 : tie.Need-same-length-7
+same-length-7 c = search needs
+
+returns-2 : tie.Need-returns-2
+returns-2 c =
+    let f = c .before in
+    let d = closing (f .before) in
+    let w = told (d .before) in
+    let e = w .before in
+    let s = begun e in
+    accepted-reading (s .args .value) (s .args .answers .now) _ (given s) _ _ _ _ (checked e) (s .fits .value)
+    (record {
+      closed = taken-closed (s .args .value) (s .args .state) (w .with-reading .result) (is w) (used (s .args .queries)) _ _ _ (d .close-at-edge .ensures);
+      number = f .answer-due .ensures .1 .1;
+      written = f .answer-due .ensures .1 .2;
+      answers = f .answer-due .ensures .1 .3;
+    })
+
+pub reading-spec : {M : Type 1} → statement M
+reading-spec =
+    tie.close
+    (tie.spec
+    enough-requires
+    judge-reading-requires
+    enum-known-refusal
+    refused-reading-requires
+    returns
+    enum-told
+    with-reading-requires
+    close-at-edge-requires
+    answer-due-requires
+    same-length
+    same-length-2
+    same-length-3
+    same-length-4
+    same-length-5
+    same-length-6
+    same-length-7
+    returns-2)

@@ -1,0 +1,35 @@
+-- `totals` meets its contract: it is refused by checks 1 and 2, or returns the four numbers. Assumes nothing.
+use mathlib.Core.Path.{refl}
+use borrow.Author.Needs.{needs}
+use Rattle.window.specs.Calls as calls
+use Rattle.engine.proofs.Promises.{refused-call, passes, accepted-totals}
+use Rattle.engine.proofs.calls.totals.Statement.{statement}
+use Rattle.engine.proofs.calls.totals.Tie as tie
+use Rattle.engine.proofs.calls.totals.Reads as reads
+use Rattle.engine.proofs.calls.totals.Lts as lts
+
+enough-requires : tie.Need-enough-requires
+enough-requires c κs = search needs
+
+judge-requires : tie.Need-judge-requires
+judge-requires c κs = search needs
+
+enum-known-refusal : tie.Need-enum-known-refusal
+enum-known-refusal c = search needs
+
+returns : tie.Need-returns
+returns c =
+    let j = c .before .before .before in
+    refused-call calls.totals _ _ _ _ refl refl (j .before .enough .ensures) (j .judge .ensures) (c .before .refusal .given .1)
+
+enum-told : tie.Need-enum-told
+enum-told c = search needs
+
+returns-2 : tie.Need-returns-2
+returns-2 c =
+    let p = c .before .before in
+    let j = p .before .before in
+    accepted-totals _ (passes calls.totals _ _ _ (j .before .enough .ensures) (j .judge .ensures) (p .enum-told .given .1))
+
+pub totals-spec : {M : Type 1} → statement M
+totals-spec = tie.close (tie.spec enough-requires judge-requires enum-known-refusal returns enum-told returns-2)

@@ -1,0 +1,16 @@
+use mir.Facts.{toZ-ofZ}
+use Rattle.engine.proofs.Widened.{wide-fits, wide-is}
+use Rattle.engine.proofs.Aggregates.{same-aggregate}
+use Rattle.engine.proofs.partial.Aggregate.first.Statement.{statement}
+use Rattle.engine.proofs.partial.Aggregate.first.Tie as tie
+use Rattle.engine.proofs.partial.Aggregate.first.Reads as reads
+use Rattle.engine.proofs.partial.Aggregate.first.Lts as lts
+
+cast-wide : tie.Need-cast-wide
+cast-wide c = wide-fits (c .fits .value)
+
+returns : tie.Need-returns
+returns c = let v = toZ-ofZ (c .fits .value) in same-aggregate (wide-is (c .fits .value)) v v
+
+pub first-spec : {M : Type 1} → statement M
+first-spec = tie.close (tie.spec cast-wide returns)

@@ -1,0 +1,33 @@
+use mathlib.Core.Path.{refl}
+use borrow.Author.Needs.{needs}
+use Rattle.engine.proofs.partial.Open.fits.Statement.{statement}
+use Rattle.engine.proofs.partial.Open.fits.Tie as tie
+use Rattle.engine.proofs.partial.Open.fits.Reads as reads
+use Rattle.engine.proofs.partial.Open.fits.Lts as lts
+use Rattle.engine.proofs.partial.Aggregate.fits.Reads as fits-reads
+
+enum-told : tie.Need-enum-told
+enum-told c = search needs
+
+enum-told-2 : tie.Need-enum-told-2
+enum-told-2 c = search needs
+
+enum-known-self : tie.Need-enum-known-self
+enum-known-self c = search needs
+
+fits-requires : tie.Need-fits-requires
+fits-requires c κs = search needs
+
+returns : tie.Need-returns
+returns c = rw (c .enum-told .given .1) (λ e. tt, λ f. refl)
+
+returns-2 : tie.Need-returns-2
+returns-2 c = rw (c .enum-told2 .given .1) (λ e. tt, λ f. refl)
+
+returns-3 : tie.Need-returns-3
+returns-3 c = rw (c .before .before .self .given .1) (c .fits2 .ensures)
+
+pub fits-spec : {M : Type 1} → statement M
+fits-spec =
+    tie.close
+    (tie.spec enum-told enum-told-2 enum-known-self fits-requires returns returns-2 returns-3)

@@ -1,0 +1,28 @@
+use mathlib.Core.Path.{ap, _∙_}
+use borrow.Author.Needs.{needs}
+use mir.Facts.{toZ-ofZ}
+use Rattle.engine.specs.declared.partial.Open.{Open}
+use Rattle.engine.specs.Open.{openWith}
+use Rattle.engine.specs.States.{withReading, withPartial}
+use Rattle.engine.proofs.Aggregates.{holding-small}
+use Rattle.engine.proofs.state.State.with_reading.Statement.{statement}
+use Rattle.engine.proofs.state.State.with_reading.Tie as tie
+use Rattle.engine.proofs.state.State.with_reading.Reads as reads
+use Rattle.engine.proofs.state.State.with_reading.Lts as lts
+use Rattle.engine.proofs.partial.Open.extended.Reads as extended-reads
+
+extended-requires : tie.Need-extended-requires
+extended-requires c κs = λ a e. let s = c .args .self in holding-small (s .count) (s .closed) (s .partial) a e (c .pre .0 .partial)
+
+add-t8 : tie.Need-add-t8
+add-t8 c = search needs
+
+returns : tie.Need-returns
+returns c =
+    let s = c .before .before .before .before .before in
+    let st = s .args .self in
+    ap (λ (o : Open). withPartial o (withReading (s .args .value) st))
+    (c .before .before .before .before .extended .ensures ∙ ap (λ v. openWith (st .count) v (st .partial)) (toZ-ofZ (s .fits .value)))
+
+pub with-reading-spec : {M : Type 1} → statement M
+with-reading-spec = tie.close (tie.spec extended-requires add-t8 returns)

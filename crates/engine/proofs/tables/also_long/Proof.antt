@@ -1,0 +1,17 @@
+use mathlib.Core.Path.{refl}
+use native.Mathlib.Omega.{arith}
+use borrow.Author.Tests.{le-leb, lt-leb}
+use Rattle.deque.specs.Rings.{capacity}
+use Rattle.engine.proofs.tables.also_long.Statement.{statement}
+use Rattle.engine.proofs.tables.also_long.Tie as tie
+use Rattle.engine.proofs.tables.also_long.Reads as reads
+use Rattle.engine.proofs.tables.also_long.Lts as lts
+
+returns : tie.Need-returns
+returns c = rw (le-leb capacity (c .before .args .len) (omega arith)) refl
+
+returns-2 : tie.Need-returns-2
+returns-2 c = rw (lt-leb capacity (c .before .args .len) (omega arith)) refl
+
+pub also-long-spec : {M : Type 1} → statement M
+also-long-spec = tie.close (tie.spec returns returns-2)

@@ -1,0 +1,65 @@
+-- Demand 3: for every list of calls the engine and the reference model, both fresh, accept and refuse the same calls, return the same numbers and answers, and end alike.
+-- `proofs/Agreement.antt` proves it.
+-- Assumes nothing.
+use Prim.Native.Nat.{ℕ, _*_, _-_, _≤_}
+use mathlib.Core.Path.{_≡_}
+use mathlib.Core.Bool.{true}
+use mathlib.Core.List.{List, [], _∷_}
+use lib.IntN.{ℤ}
+use lib.ListN.{length}
+use Rattle.window.specs.Calls.{Call, start, register, withdraw, reading, totals, Outcome}
+use Rattle.window.specs.Model as model
+use Rattle.window.specs.Model.{count, initial, Ran, run}
+use Rattle.registry.specs.Records.{used, Tidy}
+use Rattle.engine.specs.States.{longEnough}
+use Rattle.engine.specs.Machine.{Machine}
+use Rattle.engine.specs.Contracts.{Ensures, ReadingEnsures, StartEnsures}
+
+-- a reading is given an answer table of so many places, with any content
+pub record Reads (v : ℤ) (places : ℕ) (m : Machine) (o : Outcome) (m′ : Machine) : Type 0 where
+  pub before : List ℤ
+  pub after : List ℤ
+  pub long : length before ≡ places
+  pub ensures : ReadingEnsures v before after m o m′
+
+-- the engine's call c on m came to o and left m′: exactly what the contracts of the five calls say
+abbrev pub Performs : Call → Machine → Outcome → Machine → Type 0
+Performs start m o m′ = StartEnsures m o m′
+Performs (register number kind range slide) m o m′ = Ensures (register number kind range slide) m o m′
+Performs (withdraw number) m o m′ = Ensures (withdraw number) m o m′
+Performs (reading v places) m o m′ = Reads v places m o m′
+Performs totals m o m′ = Ensures totals m o m′
+
+-- a list of calls, each on what the call before left, with the outcome of each
+pub data Performed : Machine → List Call → List Outcome → Machine → Type 0 where
+  ended : {m : Machine} → Performed m [] [] m
+  called : {m m′ m″ : Machine} {c : Call} {cs : List Call} {o : Outcome} {os : List Outcome}
+      → Performs c m o m′ → Performed m′ cs os m″ → Performed m (c ∷ cs) (o ∷ os) m″
+
+-- a fresh engine: one just started on tables that pass check 1, whatever they held
+pub record Fresh (m : Machine) : Type 0 where
+  pub before : Machine
+  pub outcome : Outcome
+  pub long : longEnough (before .tables) ≡ true
+  pub started : StartEnsures before outcome m
+
+-- the calls cs came to the outcomes os and left m: so they do in the model `r`
+pub record AgreesWith (r : Ran) (os : List Outcome) (m : Machine) : Type 0 where
+  -- for each call: acceptance or refusal, the numbers returned and, at an accepted reading, the answers
+  pub outcomes : os ≡ r .outcomes
+  -- after the list: the queries, with all unused records 0
+  pub queries : used (m .queries) ≡ r .state .queries
+  pub unused : Tidy (m .queries)
+  -- n, P, M and N
+  pub readings : m .state .count ≡ count (r .state)
+  pub partials : m .state .closed ≡ length (r .state .closed)
+  pub maxima : m .state .maxima .comparisons ≡ r .state .maxComparisons
+  pub minima : m .state .minima .comparisons ≡ r .state .minComparisons
+  -- M and N are at most 2 P - 2, which is 0 where P is 0
+  pub maxBound : m .state .maxima .comparisons ≤ 2 * m .state .closed - 2
+  pub minBound : m .state .minima .comparisons ≤ 2 * m .state .closed - 2
+
+-- the claim about the whole list
+abbrev pub Demand3 : Type 0
+Demand3 = (fresh : Machine) → Fresh fresh → (calls : List Call) (outcomes : List Outcome) (m : Machine)
+    → Performed fresh calls outcomes m → AgreesWith (run initial calls) outcomes m

@@ -1,0 +1,7 @@
+pub mod Open
+pub mod States
+pub mod Answers
+pub mod Machine
+pub mod Outcomes
+pub mod Contracts
+pub mod Demand3

@@ -1,0 +1,117 @@
+// The due queries are answered from the rings: no reading and no partial is gone through.
+use crate::state::State;
+use registry::checks::ANSWER_PLACES;
+use registry::queries::Queries;
+use window::query::Count;
+use window::query::Query;
+ghost use mathlib.Core.Path.{_≡_};
+ghost use mathlib.Core.Bool.{true};
+ghost use mathlib.Core.List.{List, map};
+ghost use Prim.Native.Nat.{_+_, _*_, _≤_};
+ghost use lib.IntN.{pos};
+ghost use lib.ListN.{length};
+ghost use Rattle.window.specs.Lists.{Each};
+ghost use Rattle.window.specs.Queries.{Limits};
+ghost use Rattle.window.specs.Refusals.{dueAt};
+ghost use Rattle.window.specs.Calls.{Answer};
+ghost use Rattle.deque.specs.Rings.{Fits};
+ghost use Rattle.deque.specs.Sums.{FitsSums};
+ghost use Rattle.registry.specs.Records.{recordLimit, used};
+ghost use Rattle.engine.specs.States.{tables, longEnough};
+ghost use Rattle.engine.specs.Answers.{answerWith, putAt, answeredPlaces, valueFrom, answerFrom, InOrder};
+
+// One answer is written: query number, kind, count of readings in the window, value.
+fn put_answer(answers: &mut [i64], at: usize, q: Query, count: Count, value: i64)
+    requires { ⌜ at + 4 ≤ length (now answers) ⌝ }
+    ensures { λ _. ⌜ now (answers .exit) ≡ putAt at (answerWith q count value) (now (answers .entry)) ⌝ }
+{
+    answers[at] = q.number as i64;
+    answers[at + 1] = q.kind as i64;
+    answers[at + 2] = count as i64;
+    answers[at + 3] = value;
+}
+
+impl State {
+    // The value of the window of q at n, by its kind.
+    fn window_value(
+        self,
+        q: Query,
+        starts: &[Count],
+        sums: &[i64],
+        max_starts: &[Count],
+        max_values: &[i32],
+        min_starts: &[Count],
+        min_values: &[i32],
+    ) -> i64
+        requires { ⌜ FitsSums (self .sums) × Fits (self .maxima .ring) × Fits (self .minima .ring) × (q .origin ≤ self .count)
+            × (longEnough (tables (now starts) (now sums) (now «max_starts») (now «max_values») (now «min_starts») (now «min_values»)) ≡ true) ⌝ }
+        ensures { λ r. ⌜ (InOrder self (tables (now (starts .entry)) (now (sums .entry)) (now («max_starts» .entry)) (now («max_values» .entry)) (now («min_starts» .entry)) (now («min_values» .entry)))
+            → r ≡ valueFrom self (tables (now (starts .entry)) (now (sums .entry)) (now («max_starts» .entry)) (now («max_values» .entry)) (now («min_starts» .entry)) (now («min_values» .entry))) q) ⌝ }
+    {
+        let n = self.count;
+        let from = q.window_start(n);
+        if q.kind == 1 {
+            let partials = self.sums;
+            return partials.sum_from(starts, sums, from);
+        }
+        if q.kind == 2 {
+            return q.window_count(n) as i64;
+        }
+        if q.kind == 3 {
+            let maxima = self.maxima;
+            return maxima.extreme_from(max_starts, max_values, from) as i64;
+        }
+        let minima = self.minima;
+        minima.extreme_from(min_starts, min_values, from) as i64
+    }
+
+    // The queries due at n are answered in registration order, four places each, from the first place on. Returned is how many they are.
+    pub(crate) fn answer_due(
+        self,
+        queries: Queries,
+        starts: &[Count],
+        sums: &[i64],
+        max_starts: &[Count],
+        max_values: &[i32],
+        min_starts: &[Count],
+        min_values: &[i32],
+        answers: &mut [i64],
+    ) -> usize
+        requires { ⌜ FitsSums (self .sums) × Fits (self .maxima .ring) × Fits (self .minima .ring)
+            × (queries .count ≤ recordLimit) × Each Limits (used queries) × Each (λ (q : Query). q .origin ≤ self .count) (used queries)
+            × (4 * length (dueAt (self .count) (used queries)) ≤ length (now answers))
+            × (longEnough (tables (now starts) (now sums) (now «max_starts») (now «max_values») (now «min_starts») (now «min_values»)) ≡ true) ⌝ }
+        ensures count { λ r. ⌜ r ≡ length (dueAt (self .count) (used queries)) ⌝ }
+        ensures places { λ r. ⌜ ((given : List Answer) × (length given ≡ r) × (now (answers .exit) ≡ answeredPlaces given (now (answers .entry)))
+            × (InOrder self (tables (now (starts .entry)) (now (sums .entry)) (now («max_starts» .entry)) (now («max_values» .entry)) (now («min_starts» .entry)) (now («min_values» .entry)))
+            → given ≡ map (answerFrom self (tables (now (starts .entry)) (now (sums .entry)) (now («max_starts» .entry)) (now («max_values» .entry)) (now («min_starts» .entry)) (now («min_values» .entry)))) (dueAt (self .count) (used queries)))) ⌝ }
+    {
+        let n = self.count;
+        let mut answered = 0;
+        let mut i = 0;
+        while i < queries.count {
+            let q = queries.records[i];
+            if q.due(n) {
+                let value = self.window_value(
+                    q,
+                    starts,
+                    sums,
+                    max_starts,
+                    max_values,
+                    min_starts,
+                    min_values,
+                );
+                put_answer(
+                    answers,
+                    ANSWER_PLACES * answered,
+                    q,
+                    q.window_count(n),
+                    value,
+                );
+                answered += 1;
+            }
+            i += 1;
+        }
+        answered
+    }
+}

@@ -1,0 +1,303 @@
+// The open calls (document 01, "The calls and where each refuses").
+use crate::checks::judge;
+use crate::checks::judge_reading;
+use crate::checks::judge_register;
+use crate::checks::judge_withdraw;
+use crate::partial::Open;
+use crate::state::State;
+use crate::tables::enough;
+use crate::tables::zero_starts;
+use crate::tables::zero_sums;
+use crate::tables::zero_values;
+use registry::queries::Queries;
+use window::query::Count;
+use window::query::Query;
+use window::refusal::Refusal;
+use window::refusal::Verdict;
+ghost use mathlib.Core.Path.{_≡_};
+ghost use Rattle.window.specs.Calls.{start, register, withdraw, reading, totals};
+ghost use Rattle.engine.specs.States.{tables};
+ghost use Rattle.engine.specs.Machine.{machine};
+ghost use Rattle.engine.specs.Outcomes.{verdictOutcome, readingOutcome, totalsOutcome};
+ghost use Rattle.engine.specs.Contracts.{StartEnsures, Ensures, ReadingEnsures};
+
+// What a start, a registration or a withdrawal comes to, with state and query list handed back: equal where it is refused.
+pub struct Reply {
+    pub verdict: Verdict,
+    pub state: State,
+    pub queries: Queries,
+}
+
+// What a reading comes to: how many answers were written, or a refusal.
+pub enum Answered {
+    Answers(usize),
+    Refused(Refusal),
+}
+
+// The same, with the state handed back: equal where it is refused.
+pub struct ReadingReply {
+    pub outcome: Answered,
+    pub state: State,
+}
+
+// What a call of totals comes to: n, P, M and N, or a refusal.
+pub enum TotalsReply {
+    Are(Count, Count, u64, u64),
+    Refused(Refusal),
+}
+
+// A refused call hands back what it was given.
+fn refused(state: State, queries: Queries, refusal: Refusal) -> Reply
+    ensures { λ r. ⌜ r ≡ record { verdict = Verdict.Refused refusal; state = state; queries = queries } ⌝ }
+{
+    let verdict = Verdict::Refused(refusal);
+    Reply {
+        verdict,
+        state,
+        queries,
+    }
+}
+
+// So does a refused reading.
+fn refused_reading(state: State, refusal: Refusal) -> ReadingReply
+    ensures { λ r. ⌜ r ≡ record { outcome = Answered.Refused refusal; state = state } ⌝ }
+{
+    let outcome = Answered::Refused(refusal);
+    ReadingReply { outcome, state }
+}
+
+// Start: everything empty. The first 4,096 places of each table become 0.
+pub fn start(
+    state: State,
+    queries: Queries,
+    starts: &mut [Count],
+    sums: &mut [i64],
+    max_starts: &mut [Count],
+    max_values: &mut [i32],
+    min_starts: &mut [Count],
+    min_values: &mut [i32],
+) -> Reply
+    ensures { λ r. ⌜ StartEnsures
+        (machine state queries (tables (now (starts .entry)) (now (sums .entry)) (now («max_starts» .entry)) (now («max_values» .entry)) (now («min_starts» .entry)) (now («min_values» .entry))))
+        (verdictOutcome (r .verdict))
+        (machine (r .state) (r .queries) (tables (now (starts .exit)) (now (sums .exit)) (now («max_starts» .exit)) (now («max_values» .exit)) (now («min_starts» .exit)) (now («min_values» .exit)))) ⌝ }
+{
+    let long = enough(
+        starts.len(),
+        sums.len(),
+        max_starts.len(),
+        max_values.len(),
+        min_starts.len(),
+        min_values.len(),
+    );
+    if !long {
+        return refused(state, queries, Refusal::TableTooShort);
+    }
+    zero_starts(starts);
+    zero_sums(sums);
+    zero_starts(max_starts);
+    zero_values(max_values);
+    zero_starts(min_starts);
+    zero_values(min_values);
+    let state = State::fresh();
+    let queries = Queries::empty();
+    Reply {
+        verdict: Verdict::Passed,
+        state,
+        queries,
+    }
+}
+
+// Register: the query joins the list with g = n. An open partial that holds a reading closes first.
+pub fn register(
+    state: State,
+    queries: Queries,
+    starts: &mut [Count],
+    sums: &mut [i64],
+    max_starts: &mut [Count],
+    max_values: &mut [i32],
+    min_starts: &mut [Count],
+    min_values: &mut [i32],
+    number: u32,
+    kind: u32,
+    range: u32,
+    slide: u32,
+) -> Reply
+    ensures { λ r. ⌜ Ensures (register number kind range slide)
+        (machine state queries (tables (now (starts .entry)) (now (sums .entry)) (now («max_starts» .entry)) (now («max_values» .entry)) (now («min_starts» .entry)) (now («min_values» .entry))))
+        (verdictOutcome (r .verdict))
+        (machine (r .state) (r .queries) (tables (now (starts .exit)) (now (sums .exit)) (now («max_starts» .exit)) (now («max_values» .exit)) (now («min_starts» .exit)) (now («min_values» .exit)))) ⌝ }
+{
+    let long = enough(
+        starts.len(),
+        sums.len(),
+        max_starts.len(),
+        max_values.len(),
+        min_starts.len(),
+        min_values.len(),
+    );
+    if let Verdict::Refused(refusal) = judge_register(
+        long,
+        state,
+        queries,
+        number,
+        kind,
+        range,
+        slide,
+    ) {
+        return refused(state, queries, refusal);
+    }
+    let closed = state.close_open(
+        queries,
+        starts,
+        sums,
+        max_starts,
+        max_values,
+        min_starts,
+        min_values,
+    );
+    let q = Query {
+        number,
+        kind,
+        range,
+        slide,
+        origin: state.count,
+    };
+    let after = closed.with_partial(Open::Empty);
+    let joined = queries.joined_by(q);
+    Reply {
+        verdict: Verdict::Passed,
+        state: after,
+        queries: joined,
+    }
+}
+
+// Withdraw: the query leaves, the others keep their order. With none left, what is open is dropped unclosed.
+pub fn withdraw(
+    state: State,
+    queries: Queries,
+    starts: &[Count],
+    sums: &[i64],
+    max_starts: &[Count],
+    max_values: &[i32],
+    min_starts: &[Count],
+    min_values: &[i32],
+    number: u32,
+) -> Reply
+    ensures { λ r. ⌜ Ensures (withdraw number)
+        (machine state queries (tables (now (starts .entry)) (now (sums .entry)) (now («max_starts» .entry)) (now («max_values» .entry)) (now («min_starts» .entry)) (now («min_values» .entry))))
+        (verdictOutcome (r .verdict))
+        (machine (r .state) (r .queries) (tables (now (starts .entry)) (now (sums .entry)) (now («max_starts» .entry)) (now («max_values» .entry)) (now («min_starts» .entry)) (now («min_values» .entry)))) ⌝ }
+{
+    let long = enough(
+        starts.len(),
+        sums.len(),
+        max_starts.len(),
+        max_values.len(),
+        min_starts.len(),
+        min_values.len(),
+    );
+    if let Verdict::Refused(refusal) = judge_withdraw(long, state, queries, number) {
+        return refused(state, queries, refusal);
+    }
+    let rest = queries.left_by(number);
+    let after = state.open_while_any(rest.count);
+    Reply {
+        verdict: Verdict::Passed,
+        state: after,
+        queries: rest,
+    }
+}
+
+// Totals: n, P, M and N, changing nothing.
+pub fn totals(
+    state: State,
+    queries: Queries,
+    starts: &[Count],
+    sums: &[i64],
+    max_starts: &[Count],
+    max_values: &[i32],
+    min_starts: &[Count],
+    min_values: &[i32],
+) -> TotalsReply
+    ensures { λ r. ⌜ Ensures totals
+        (machine state queries (tables (now (starts .entry)) (now (sums .entry)) (now («max_starts» .entry)) (now («max_values» .entry)) (now («min_starts» .entry)) (now («min_values» .entry))))
+        (totalsOutcome r)
+        (machine state queries (tables (now (starts .entry)) (now (sums .entry)) (now («max_starts» .entry)) (now («max_values» .entry)) (now («min_starts» .entry)) (now («min_values» .entry)))) ⌝ }
+{
+    let long = enough(
+        starts.len(),
+        sums.len(),
+        max_starts.len(),
+        max_values.len(),
+        min_starts.len(),
+        min_values.len(),
+    );
+    if let Verdict::Refused(refusal) = judge(long, state, queries) {
+        return TotalsReply::Refused(refusal);
+    }
+    let maxima = state.maxima;
+    let minima = state.minima;
+    TotalsReply::Are(
+        state.count,
+        state.closed,
+        maxima.comparisons,
+        minima.comparisons,
+    )
+}
+
+// Reading: it joins the readings, what is open closes at an edge, and the due queries are answered.
+pub fn reading(
+    state: State,
+    queries: Queries,
+    starts: &mut [Count],
+    sums: &mut [i64],
+    max_starts: &mut [Count],
+    max_values: &mut [i32],
+    min_starts: &mut [Count],
+    min_values: &mut [i32],
+    answers: &mut [i64],
+    value: i32,
+) -> ReadingReply
+    ensures { λ r. ⌜ ReadingEnsures value (now (answers .entry)) (now (answers .exit))
+        (machine state queries (tables (now (starts .entry)) (now (sums .entry)) (now («max_starts» .entry)) (now («max_values» .entry)) (now («min_starts» .entry)) (now («min_values» .entry))))
+        (readingOutcome (r .outcome) (now (answers .exit)))
+        (machine (r .state) queries (tables (now (starts .exit)) (now (sums .exit)) (now («max_starts» .exit)) (now («max_values» .exit)) (now («min_starts» .exit)) (now («min_values» .exit)))) ⌝ }
+{
+    let long = enough(
+        starts.len(),
+        sums.len(),
+        max_starts.len(),
+        max_values.len(),
+        min_starts.len(),
+        min_values.len(),
+    );
+    if let Verdict::Refused(refusal) = judge_reading(long, state, queries, answers.len()) {
+        return refused_reading(state, refusal);
+    }
+    let taken = state.with_reading(value);
+    let closed = taken.close_at_edge(
+        queries,
+        starts,
+        sums,
+        max_starts,
+        max_values,
+        min_starts,
+        min_values,
+    );
+    let answered = closed.answer_due(
+        queries,
+        starts,
+        sums,
+        max_starts,
+        max_values,
+        min_starts,
+        min_values,
+        answers,
+    );
+    let outcome = Answered::Answers(answered);
+    ReadingReply {
+        outcome,
+        state: closed,
+    }
+}

@@ -1,0 +1,136 @@
+// A partial closes: on the rings of the sums, of the maxima and of the minima.
+use crate::partial::Aggregate;
+use crate::partial::Open;
+use crate::state::State;
+use deque::compare::Extreme;
+use registry::queries::Queries;
+use window::query::Count;
+use window::query::Query;
+ghost use mathlib.Core.Path.{_≡_};
+ghost use mathlib.Core.Bool.{true};
+ghost use Prim.Native.Nat.{_≤_, _<_};
+ghost use lib.ListN.{length};
+ghost use Rattle.window.specs.Lists.{any, Each};
+ghost use Rattle.window.specs.Queries.{Limits, edge, horizon};
+ghost use Rattle.registry.specs.Records.{recordLimit, used};
+ghost use Rattle.engine.specs.States.{Ready, tables, longEnough, Closed, OpenClosed, ClosedWhere};
+
+impl State {
+    // The open partial a closes at the horizon, and an empty one is open.
+    fn close(
+        self,
+        a: Aggregate,
+        horizon: Count,
+        starts: &mut [Count],
+        sums: &mut [i64],
+        max_starts: &mut [Count],
+        max_values: &mut [i32],
+        min_starts: &mut [Count],
+        min_values: &mut [i32],
+    ) -> State
+        requires { ⌜ Ready self × (self .partial ≡ Open.Holding a)
+            × (longEnough (tables (now starts) (now sums) (now «max_starts») (now «max_values») (now «min_starts») (now «min_values»)) ≡ true) ⌝ }
+        ensures { λ r. ⌜ Closed a horizon
+            self (tables (now (starts .entry)) (now (sums .entry)) (now («max_starts» .entry)) (now («max_values» .entry)) (now («min_starts» .entry)) (now («min_values» .entry)))
+            r (tables (now (starts .exit)) (now (sums .exit)) (now («max_starts» .exit)) (now («max_values» .exit)) (now («min_starts» .exit)) (now («min_values» .exit))) ⌝ }
+    {
+        let before = self.sums;
+        let closed = before.close(starts, sums, horizon, a.start, a.sum);
+        let before = self.maxima;
+        let maxima = before.close(
+            Extreme::Maximum,
+            max_starts,
+            max_values,
+            horizon,
+            a.start,
+            a.maximum,
+        );
+        let before = self.minima;
+        let minima = before.close(
+            Extreme::Minimum,
+            min_starts,
+            min_values,
+            horizon,
+            a.start,
+            a.minimum,
+        );
+        State {
+            count: self.count,
+            closed: self.closed + 1,
+            partial: Open::Empty,
+            sums: closed,
+            maxima,
+            minima,
+        }
+    }
+
+    // What is open closes, where it holds a reading.
+    pub(crate) fn close_open(
+        self,
+        queries: Queries,
+        starts: &mut [Count],
+        sums: &mut [i64],
+        max_starts: &mut [Count],
+        max_values: &mut [i32],
+        min_starts: &mut [Count],
+        min_values: &mut [i32],
+    ) -> State
+        requires { ⌜ Ready self
+            × (queries .count ≤ recordLimit) × Each (λ (q : Query). q .origin ≤ self .count) (used queries)
+            × (longEnough (tables (now starts) (now sums) (now «max_starts») (now «max_values») (now «min_starts») (now «min_values»)) ≡ true) ⌝ }
+        ensures { λ r. ⌜ OpenClosed (self .partial) (horizon (self .count) (used queries))
+            self (tables (now (starts .entry)) (now (sums .entry)) (now («max_starts» .entry)) (now («max_values» .entry)) (now («min_starts» .entry)) (now («min_values» .entry)))
+            r (tables (now (starts .exit)) (now (sums .exit)) (now («max_starts» .exit)) (now («max_values» .exit)) (now («min_starts» .exit)) (now («min_values» .exit))) ⌝ }
+    {
+        let partial = self.partial;
+        match partial {
+            Open::Nothing => self,
+            Open::Empty => self,
+            Open::Holding(a) => {
+                let horizon = queries.horizon(self.count);
+                self.close(
+                    a,
+                    horizon,
+                    starts,
+                    sums,
+                    max_starts,
+                    max_values,
+                    min_starts,
+                    min_values,
+                )
+            }
+        }
+    }
+
+    // The open partial closes where n is an edge of some query. Where it is none, no table is touched.
+    pub(crate) fn close_at_edge(
+        self,
+        queries: Queries,
+        starts: &mut [Count],
+        sums: &mut [i64],
+        max_starts: &mut [Count],
+        max_values: &mut [i32],
+        min_starts: &mut [Count],
+        min_values: &mut [i32],
+    ) -> State
+        requires { ⌜ Ready self
+            × (queries .count ≤ recordLimit) × Each Limits (used queries) × Each (λ (q : Query). q .origin ≤ self .count) (used queries)
+            × (longEnough (tables (now starts) (now sums) (now «max_starts») (now «max_values») (now «min_starts») (now «min_values»)) ≡ true) ⌝ }
+        ensures { λ r. ⌜ ClosedWhere (any (edge (self .count)) (used queries)) (horizon (self .count) (used queries))
+            self (tables (now (starts .entry)) (now (sums .entry)) (now («max_starts» .entry)) (now («max_values» .entry)) (now («min_starts» .entry)) (now («min_values» .entry)))
+            r (tables (now (starts .exit)) (now (sums .exit)) (now («max_starts» .exit)) (now («max_values» .exit)) (now («min_starts» .exit)) (now («min_values» .exit))) ⌝ }
+    {
+        if !queries.any_edge(self.count) {
+            return self;
+        }
+        self.close_open(
+            queries,
+            starts,
+            sums,
+            max_starts,
+            max_values,
+            min_starts,
+            min_values,
+        )
+    }
+}

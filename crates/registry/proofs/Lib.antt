@@ -1,0 +1,5 @@
+pub mod Judged
+pub mod Scans
+pub mod Joining
+pub mod Damage
+pub mod Verdicts

@@ -1,0 +1,123 @@
+-- The laws of a scan over the first c elements of a list, place by place: what is left from place i on is the element at i and what is left
+-- after it, and so for each test, count and least start that is taken over them.
+-- Assumes nothing.
+use mathlib.Core.Path.{_≡_, refl, sym, ap, _∙_, subst}
+use mathlib.Core.Bool.{Bool, true, false, _||_}
+use mathlib.Core.List.{List, [], _∷_, map}
+use Prim.Native.Nat.{ℕ, zero, suc, _+_, _≤_, _<_, min}
+use native.Mathlib.Numerals.{add-one}
+use native.Mathlib.Omega.{arith}
+use lib.ListN.{length, getD, take, drop, length-take, length-map, drop-of-length-le}
+use lib.Seq.{drop-cons, getD-take}
+use Rattle.window.specs.declared.query.Query.{Query}
+use Rattle.window.specs.Lists.{filter, any, Each}
+use Rattle.window.specs.Queries.{windowStart, horizon}
+use Rattle.window.proofs.Queries.{horizon-le-count, horizon-cons}
+
+-- the length of the list of which another is the image
+pub mapped-length : {A B : Type 0} (f : A → B) (xs : List A) (n : ℕ) → length (map f xs) ≡ n → length xs ≡ n
+mapped-length f xs n e = sym (length-map xs f) ∙ e
+
+module _ {A : Type 0} where
+  -- P of every element, and so of every element from place i on
+  each-drop : (P : A → Type 0) (i : ℕ) (xs : List A) → Each P xs → Each P (drop i xs)
+  each-drop P zero xs h = h
+  each-drop P (suc i) [] h = tt
+  each-drop P (suc i) (x ∷ xs) h = each-drop P i xs (h .1)
+
+  -- ---- a place that is not the end
+
+  module _ (xs : List A) (c i : ℕ) (d : A) (l : i < c) (w : c ≤ length xs) where
+    -- what is left is the element at i and what is left after it
+    pub rest-cons : drop i (take c xs) ≡ getD xs i d ∷ drop (i + 1) (take c xs)
+    rest-cons =
+        let k : i < length (take c xs) = simp length-take (omega arith) in
+        drop-cons (take c xs) i d k ∙ rw (getD-take c xs i d l, add-one)
+
+    -- P of every element of the scan holds of the one at i
+    pub each-at : (P : A → Type 0) → Each P (take c xs) → P (getD xs i d)
+    each-at P h = subst (Each P) rest-cons (each-drop P i (take c xs) h) .0
+
+    -- some element of those left passes a test where the one at i does, or one after it
+    pub any-cons : (p : A → Bool) → any p (drop i (take c xs)) ≡ (p (getD xs i d) || any p (drop (i + 1) (take c xs)))
+    any-cons p = ap (any p) rest-cons
+
+    -- a test that the element at i passes is passed by one of those left
+    pub any-found : (p : A → Bool) → p (getD xs i d) ≡ true → any p (drop i (take c xs)) ≡ true
+    any-found p e = any-cons p ∙ rw e
+
+    -- one that it fails is passed by one of those left where it is by one after it
+    pub any-next : (p : A → Bool) → p (getD xs i d) ≡ false → any p (drop i (take c xs)) ≡ any p (drop (i + 1) (take c xs))
+    any-next p e = any-cons p ∙ rw e
+
+    -- those left that pass begin with the element at i where it passes
+    pub filter-passed : (p : A → Bool) → p (getD xs i d) ≡ true → filter p (drop i (take c xs)) ≡ getD xs i d ∷ filter p (drop (i + 1) (take c xs))
+    filter-passed p e = ap (filter p) rest-cons ∙ rw e
+
+    -- and are those after it where it fails
+    pub filter-failed : (p : A → Bool) → p (getD xs i d) ≡ false → filter p (drop i (take c xs)) ≡ filter p (drop (i + 1) (take c xs))
+    filter-failed p e = ap (filter p) rest-cons ∙ rw e
+
+  -- ---- the end
+
+  -- nothing is left
+  pub rest-ended : (xs : List A) (c i : ℕ) → c ≤ i → drop i (take c xs) ≡ []
+  rest-ended xs c i l =
+      let k : length (take c xs) ≤ i = simp length-take (omega arith) in
+      drop-of-length-le (take c xs) k
+
+  -- and none of it passes a test
+  pub any-ended : (p : A → Bool) (xs : List A) (c i : ℕ) → c ≤ i → any p (drop i (take c xs)) ≡ false
+  any-ended p xs c i l = ap (any p) (rest-ended xs c i l)
+
+  -- nor is any of it kept
+  pub filter-ended : (p : A → Bool) (xs : List A) (c i : ℕ) → c ≤ i → filter p (drop i (take c xs)) ≡ []
+  filter-ended p xs c i l = ap (filter p) (rest-ended xs c i l)
+
+-- ---- a test with what was found so far, and no early exit
+
+-- what was found, or is found in what is left, one element on
+pub found-next : (found now rest whole next : Bool) → whole ≡ (now || rest) → next ≡ (found || now) → (found || whole) ≡ (next || rest)
+found-next true now rest whole next e f = cc
+found-next false now rest whole next e f = cc
+
+-- and where nothing is left
+pub found-last : (found whole : Bool) → whole ≡ false → (found || whole) ≡ found
+found-last true whole e = refl
+found-last false whole e = e
+
+-- ---- counts
+
+module _ {A : Type 0} (xs : List A) (c i : ℕ) (d : A) (l : i < c) (w : c ≤ length xs) (p : A → Bool) (k m : ℕ) (e : k + length (filter p (drop i (take c xs))) ≡ m) where
+  -- with k counted, an element that passes is one more
+  pub count-passed : p (getD xs i d) ≡ true → (k + 1) + length (filter p (drop (i + 1) (take c xs))) ≡ m
+  count-passed h = omega (arith, ap length (filter-passed xs c i d l w p h))
+
+  -- and one that fails is none
+  pub count-failed : p (getD xs i d) ≡ false → k + length (filter p (drop (i + 1) (take c xs))) ≡ m
+  count-failed h = omega (arith, ap length (filter-failed xs c i d l w p h))
+
+-- at the end all are counted
+pub count-all : {A : Type 0} (p : A → Bool) (xs : List A) (c i : ℕ) → c ≤ i → (k m : ℕ) → k + length (filter p (drop i (take c xs))) ≡ m → k ≡ m
+count-all p xs c i l k m e = omega (arith, ap length (filter-ended p xs c i l))
+
+-- ---- the horizon
+
+-- the lesser of the least start so far and the horizon of what is left: at the first place, with n as the least, it is the whole horizon
+pub least-first : (n : ℕ) (qs : List Query) → Each (λ (q : Query). q .origin ≤ n) qs → min n (horizon n qs) ≡ horizon n qs
+least-first n qs h = omega (arith, horizon-le-count n qs h)
+
+module _ (n : ℕ) (xs : List Query) (c i : ℕ) (d : Query) (l : i < c) (w : c ≤ length xs) (h : Each (λ (q : Query). q .origin ≤ n) (take c xs)) where
+  -- the horizon of what is left, by the window start of the query at i
+  horizon-rest : horizon n (drop i (take c xs)) ≡ min (windowStart n (getD xs i d)) (horizon n (drop (i + 1) (take c xs)))
+  horizon-rest =
+      let cons = rest-cons xs c i d l w in
+      ap (horizon n) cons ∙ horizon-cons n (getD xs i d) (drop (i + 1) (take c xs)) (subst (Each (λ (q : Query). q .origin ≤ n)) cons (each-drop (λ (q : Query). q .origin ≤ n) i (take c xs) h))
+
+  -- one place on it is the same, with the start of the window at i among those so far
+  pub least-next : (least from : ℕ) → from ≡ windowStart n (getD xs i d) → min least (horizon n (drop i (take c xs))) ≡ min (min least from) (horizon n (drop (i + 1) (take c xs)))
+  least-next least from e = omega (arith, horizon-rest)
+
+-- at the end it is the least start
+pub least-last : (n : ℕ) (xs : List Query) (c i least : ℕ) → c ≤ i → least ≤ n → min least (horizon n (drop i (take c xs))) ≡ least
+least-last n xs c i least l k = ap (λ (qs : List Query). min least (horizon n qs)) (rest-ended xs c i l) ∙ omega arith

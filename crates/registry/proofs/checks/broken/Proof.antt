@@ -1,0 +1,27 @@
+-- `broken` meets its contract: where the checks of the fields pass, what is left is the test of the origin. Assumes nothing.
+use borrow.Author.Needs.{needs}
+use Rattle.registry.proofs.Damage.{passed-broken, refused-broken}
+use Rattle.registry.proofs.checks.broken.Statement.{statement}
+use Rattle.registry.proofs.checks.broken.Tie as tie
+
+check-fields-requires : tie.Need-check-fields-requires
+check-fields-requires c κs = search needs
+
+enum-told : tie.Need-enum-told
+enum-told c = search needs
+
+enum-told-2 : tie.Need-enum-told-2
+enum-told-2 c = search needs
+
+returns : tie.Need-returns
+returns c =
+    let a = c .before .before .before .before .args in
+    passed-broken (a .n) (a .q) _ (c .before .before .before .check-fields .ensures) (c .before .enum-told .given .1)
+
+returns-2 : tie.Need-returns-2
+returns-2 c =
+    let a = c .before .before .before .args in
+    refused-broken (a .n) (a .q) _ (c .before .before .check-fields .ensures) _ (c .enum-told2 .given .1)
+
+pub broken-spec : {M : Type 1} → statement M
+broken-spec = tie.close (tie.spec check-fields-requires enum-told enum-told-2 returns returns-2)

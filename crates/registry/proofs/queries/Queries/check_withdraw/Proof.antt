@@ -1,0 +1,23 @@
+-- `Queries::check_withdraw` meets its contract: the verdict is that of the one test. Assumes nothing.
+use mathlib.Core.Path.{sym, _∙_}
+use borrow.Author.Needs.{needs}
+use Rattle.registry.specs.Records.{used}
+use Rattle.registry.proofs.Verdicts.{withdraw-found, withdraw-missing}
+use Rattle.registry.proofs.queries.Queries.check_withdraw.Statement.{statement}
+use Rattle.registry.proofs.queries.Queries.check_withdraw.Tie as tie
+
+holds-requires : tie.Need-holds-requires
+holds-requires c κs = search needs
+
+returns : tie.Need-returns
+returns c =
+    let a = c .before .before .args in
+    withdraw-found (used (a .self)) (a .number) (sym (c .before .holds .ensures) ∙ c .if1 .taken)
+
+returns-2 : tie.Need-returns-2
+returns-2 c =
+    let a = c .before .before .args in
+    withdraw-missing (used (a .self)) (a .number) (sym (c .before .holds .ensures) ∙ c .if1 .left)
+
+pub check-withdraw-spec : {M : Type 1} → statement M
+check-withdraw-spec = tie.close (tie.spec holds-requires returns returns-2)

@@ -1,0 +1,42 @@
+-- The list of registered queries by value: 32 records, of which the first ones are used.
+-- Assumes nothing.
+use Prim.Native.Nat.{ℕ, _-_}
+use mathlib.Core.Path.{_≡_}
+use mathlib.Core.Bool.{Bool, false, _||_}
+use mathlib.Core.List.{List, [], _∷_, _++_, map}
+use lib.Dec.{eqb}
+use lib.ListN.{take, replicate}
+use Rattle.window.specs.declared.query.Query.{Query}
+use Rattle.window.specs.Lists.{any}
+use Rattle.registry.specs.declared.queries.Queries.{Queries}
+
+-- the list has 32 records
+abbrev pub recordLimit : ℕ
+recordLimit = 32
+
+-- an unused record is all 0
+abbrev pub unused : Query
+unused = record { number = 0; kind = 0; range = 0; slide = 0; origin = 0 }
+
+-- the used records come first, in registration order
+abbrev pub used : Queries → List Query
+used l = take (l .count) (l .records)
+
+-- the unused records are all 0
+abbrev pub Tidy : Queries → Type 0
+Tidy l = l .records ≡ used l ++ replicate (recordLimit - l .count) unused
+
+-- ---- the test for a repeated number, on plain numbers
+
+-- the numbers of records
+abbrev pub numbersOf : List Query → List ℕ
+numbersOf qs = map (λ (q : Query). q .number) qs
+
+-- the number is one of these
+abbrev pub occurs : ℕ → List ℕ → Bool
+occurs k ks = any (λ (j : ℕ). eqb k j) ks
+
+-- two of them are the same
+abbrev pub repeats : List ℕ → Bool
+repeats [] = false
+repeats (k ∷ ks) = occurs k ks || repeats ks

@@ -1,0 +1,158 @@
+// What the calls are refused for: check 2 on the used records, and checks 3 to 11 (document 01, "The calls and where each refuses").
+use crate::queries::Queries;
+use crate::queries::RECORDS;
+use window::query::Count;
+use window::query::Query;
+use window::refusal::Refusal;
+use window::refusal::Verdict;
+use window::refusal::check_fields;
+ghost use mathlib.Core.Path.{_≡_};
+ghost use mathlib.Core.Bool.{_||_};
+ghost use Prim.Native.Nat.{_+_, _*_, _<_, _≤_, _^_};
+ghost use lib.ListN.{length, take, drop};
+ghost use Rattle.window.specs.Lists.{any, Each};
+ghost use Rattle.window.specs.Queries.{Limits, countLimit};
+ghost use Rattle.window.specs.Refusals.{brokenRecord, sharedNumber, damaged, firstRefusal, registerChecks, withdrawChecks, readingChecks};
+ghost use Rattle.registry.specs.Records.{recordLimit, used, numbersOf, occurs, repeats};
+
+// The greatest count of readings.
+pub const COUNT_LIMIT: Count = 4_294_967_295;
+
+// The places of an answer in the answer table.
+pub const ANSWER_PLACES: usize = 4;
+
+// Either of two tests.
+fn either(a: bool, b: bool) -> bool
+    ensures { λ r. ⌜ r ≡ (a || b) ⌝ }
+{
+    if a { true } else { b }
+}
+
+// Whether a used record breaks 3 to 6, or was registered after n.
+fn broken(q: Query, n: Count) -> bool
+    ensures { λ r. ⌜ r ≡ brokenRecord n q ⌝ }
+{
+    match check_fields(q.number, q.kind, q.range, q.slide) {
+        Verdict::Passed => n < q.origin,
+        Verdict::Refused(_) => true,
+    }
+}
+
+// Whether this number stands at one of the places from i to before the end. There is no early exit: the compiler looks at several places at once.
+fn occurs(number: u32, numbers: [u32; 32], i: usize, end: usize) -> bool
+    requires { ⌜ end ≤ recordLimit ⌝ }
+    ensures { λ r. ⌜ r ≡ occurs number (drop i (take end numbers)) ⌝ }
+{
+    let mut found = false;
+    let mut j = i;
+    while j < end {
+        found = either(found, number == numbers[j]);
+        j += 1;
+    }
+    found
+}
+
+// Whether two of the first `end` numbers are the same.
+fn repeats(numbers: [u32; 32], end: usize) -> bool
+    requires { ⌜ end ≤ recordLimit ⌝ }
+    ensures { λ r. ⌜ r ≡ repeats (take end numbers) ⌝ }
+{
+    let mut found = false;
+    let mut i = 0;
+    while i < end {
+        found = either(found, occurs(numbers[i], numbers, i + 1, end));
+        i += 1;
+    }
+    found
+}
+
+impl Queries {
+    // The numbers of the records, in a plain array.
+    fn numbers(self) -> [u32; 32]
+        ensures { λ r. ⌜ r ≡ numbersOf (self .records) ⌝ }
+    {
+        let mut numbers = [0; 32];
+        let mut i = 0;
+        while i < RECORDS {
+            let q = self.records[i];
+            numbers[i] = q.number;
+            i += 1;
+        }
+        numbers
+    }
+
+    // Whether some used record is broken.
+    fn any_broken(self, n: Count) -> bool
+        requires { ⌜ self .count ≤ recordLimit ⌝ }
+        ensures { λ r. ⌜ r ≡ any (brokenRecord n) (used self) ⌝ }
+    {
+        let mut i = 0;
+        while i < self.count {
+            let q = self.records[i];
+            if broken(q, n) {
+                return true;
+            }
+            i += 1;
+        }
+        false
+    }
+
+    // Check 2 on the list, with n readings taken: more than 32 queries, a broken record, or two that share a number.
+    pub fn damaged(self, n: Count) -> bool
+        ensures { λ r. ⌜ r ≡ damaged n (self .count) (used self) ⌝ }
+    {
+        if RECORDS < self.count {
+            return true;
+        }
+        if self.any_broken(n) {
+            return true;
+        }
+        let numbers = self.numbers();
+        repeats(numbers, self.count)
+    }
+
+    // Checks 3 to 8.
+    pub fn check_register(self, number: u32, kind: u32, range: u32, slide: u32) -> Verdict
+        requires { ⌜ self .count ≤ recordLimit ⌝ }
+        ensures { λ r. ⌜ r ≡ firstRefusal (registerChecks (used self) number kind range slide) ⌝ }
+    {
+        match check_fields(number, kind, range, slide) {
+            Verdict::Refused(refusal) => {
+                return Verdict::Refused(refusal);
+            }
+            Verdict::Passed => {}
+        }
+        if self.holds(number) {
+            return Verdict::Refused(Refusal::NumberTaken);
+        }
+        if RECORDS <= self.count {
+            return Verdict::Refused(Refusal::ListFull);
+        }
+        Verdict::Passed
+    }
+
+    // Check 9.
+    pub fn check_withdraw(self, number: u32) -> Verdict
+        requires { ⌜ self .count ≤ recordLimit ⌝ }
+        ensures { λ r. ⌜ r ≡ firstRefusal (withdrawChecks (used self) number) ⌝ }
+    {
+        if self.holds(number) {
+            return Verdict::Passed;
+        }
+        Verdict::Refused(Refusal::NotRegistered)
+    }
+
+    // Checks 10 and 11, with n readings taken and an answer table of this many places.
+    pub fn check_reading(self, n: Count, places: usize) -> Verdict
+        requires { ⌜ (self .count ≤ recordLimit) × Each Limits (used self) ⌝ }
+        ensures { λ r. ⌜ r ≡ firstRefusal (readingChecks n (used self) places) ⌝ }
+    {
+        if COUNT_LIMIT <= n {
+            return Verdict::Refused(Refusal::CountExhausted);
+        }
+        if places < ANSWER_PLACES * self.due_count(n + 1) {
+            return Verdict::Refused(Refusal::AnswersTooShort);
+        }
+        Verdict::Passed
+    }
+}
