@@ -1,14 +1,16 @@
 -- Demand 3: the engine's run of a list of calls and the model's agree.
 -- Assumes nothing.
-use mathlib.Core.Path.{_≡_, refl, ap, ap₂, _∙_, subst}
-use mathlib.Core.List.{List, [], _∷_}
+use mathlib.Core.Path.{_≡_, refl, sym, ap₂, _∙_, subst}
+use mathlib.Core.List.{List, _∷_}
 use Rattle.window.specs.Calls.{Call, start, register, withdraw, reading, totals, Outcome}
 use Rattle.window.specs.Model as model
-use Rattle.window.specs.Model.{count, initial, step, run}
+use Rattle.window.specs.Model.{initial, step, run, reached}
+use Rattle.window.specs.Invariant.{Bounded}
 use Rattle.window.proofs.Bounds.{bounded}
+use Rattle.window.proofs.Steps.{refused-from-three}
 use Rattle.engine.specs.Machine.{Machine, Represents}
-use Rattle.engine.specs.Contracts.{Ensures, ReadingEnsures, StartEnsures}
-use Rattle.engine.specs.Demand3.{Performs, Performed, ended, called, Fresh, AgreesWith, Demand3}
+use Rattle.engine.specs.Contracts.{Ensures}
+use Rattle.engine.specs.Demand3.{Performs, Performed, ended, called, Fresh, Demand3, FromStart, NeverDamaged}
 
 -- one call on what represents a state of the model: the outcome is the model's, and what is left represents the model's next state
 record Follows (s : model.State) (c : Call) (o : Outcome) (m′ : Machine) : Type 0 where
@@ -37,12 +39,17 @@ performed s {m} rep (called {m′ = n} {c = c} {o = o} e rest) =
     let k = performed ((step s c) .state) (f .represents) rest in
     (ap₂ (λ (x : Outcome) (xs : List Outcome). x ∷ xs) (f .agrees) (k .0), k .1)
 
+-- what came from a start represents the model's state, with the model's outcomes
+from-start-outcomes : (fresh : Machine) → Fresh fresh → (calls : List Call) (outcomes : List Outcome) (m : Machine) → Performed fresh calls outcomes m
+    → (outcomes ≡ (run initial calls) .outcomes) × Represents (reached calls) m
+from-start-outcomes fresh f calls outcomes m p = performed initial (f .started .represents (f .long)) p
+
 -- demand 3
 pub demand-3 : Demand3
 demand-3 fresh f calls outcomes m p =
-    let k = performed initial (f .started .represents (f .long)) p in
-    let rep : Represents ((run initial calls) .state) m = k .1 in
-    let b = bounded ((run initial calls) .state) (rep .reached) in
+    let k = from-start-outcomes fresh f calls outcomes m p in
+    let rep : Represents (reached calls) m = k .1 in
+    let b : Bounded (reached calls) = bounded (reached calls) (rep .reached) in
     record {
       outcomes = k .0;
       queries = rep .queries .used;
@@ -54,3 +61,11 @@ demand-3 fresh f calls outcomes m p =
       maxBound = rw (rep .state .maxComparisons, rep .state .closed) (b .maxima);
       minBound = rw (rep .state .minComparisons, rep .state .closed) (b .minima);
     }
+
+pub from-start : FromStart
+from-start fresh f calls outcomes m p = (from-start-outcomes fresh f calls outcomes m p) .1
+
+-- a state and tables that came from a start are never given 1 or 2
+pub never-damaged : NeverDamaged
+never-damaged fresh f calls outcomes m p c o m′ e k i =
+    refused-from-three (reached calls) c k (sym ((follows (reached calls) c m o m′ e (from-start fresh f calls outcomes m p)) .agrees) ∙ i)

@@ -9,5 +9,8 @@ pub mod Answering
 pub mod Soundness
 pub mod Judging
 pub mod Taking
-pub mod Promises
+pub mod Stepping
+pub mod Keeping
+pub mod Refusing
+pub mod Accepting
 pub mod Agreement

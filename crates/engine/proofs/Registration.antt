@@ -1,7 +1,7 @@
 -- The engine refines the model: what a registration, a withdrawal and a start make of state and tables is what they make of the model's state.
 -- Assumes nothing.
 use mathlib.Core.Path.{_≡_, refl, sym, subst}
-use mathlib.Core.Bool.{Bool, true, false, not, cond}
+use mathlib.Core.Bool.{Bool, not, cond}
 use mathlib.Core.Option.{Option, none, some}
 use mathlib.Core.List.{List, [], _∷_, _++_}
 use Prim.Native.Nat.{ℕ, _≤_}
@@ -14,10 +14,11 @@ use Rattle.window.specs.Lists.{filter, Each}
 use Rattle.window.specs.Queries.{horizon}
 use Rattle.window.specs.Refusals.{hasNumber}
 use Rattle.window.specs.Model as model
-use Rattle.window.specs.Model.{stateWith, count, initial, closeAt, closeWhere, holdsReading, withQuery, afterRegister, openIfAny, afterWithdraw}
+use Rattle.window.specs.Model.{stateWith, count, initial, closeWhere, holdsReading, withQuery, afterRegister, openIfAny, afterWithdraw}
 use Rattle.window.specs.Invariant.{Invariant}
 use Rattle.window.proofs.Queries.{horizon-more, horizon-fewer}
 use Rattle.window.proofs.Bounds.{bounded}
+use Rattle.window.proofs.Steps.{close-keeps}
 use Rattle.deque.proofs.Bridge.{retained-none, retained-rises}
 use Rattle.engine.specs.declared.partial.Open.{Open}
 use Rattle.engine.specs.declared.partial.Open.the-variants.{Nothing, Empty, Holding}
@@ -70,14 +71,6 @@ joined-is : (s : model.State) (q : Query) (st : State) (t : Tables) → Each (λ
 unfolding withQuery
 joined-is s q st t early e i =
     requeried-is s (s .queries ++ (q ∷ [])) (some (count s)) Empty st t (omega (arith, horizon-more (count s) (s .queries) q early e)) refl i
-
--- a closing changes neither readings nor queries
-close-keeps : (P : List ℤ → List Query → Type 0) (b : Bool) (o : Option ℕ) (s : model.State) → P (s .readings) (s .queries)
-    → P ((closeWhere b o s) .readings) ((closeWhere b o s) .queries)
-unfolding closeWhere closeAt
-close-keeps P b none s k = k
-close-keeps P true (some a) s k = k
-close-keeps P false (some a) s k = k
 
 -- what a registration makes of state and tables is the model's
 pub registered-is : (s : model.State) (q : Query) (st : State) (t : Tables) (st′ : State) (t′ : Tables) → Invariant s → StateIs s st t → q .origin ≡ count s

@@ -1,14 +1,14 @@
 -- What check 2 gives: a state that passes it is ready for a closing, also with one reading more; and state and queries that are the model's pass
 -- it.
 -- Assumes nothing.
-use mathlib.Core.Path.{_≡_, sym, ap, _∙_, subst}
+use mathlib.Core.Path.{_≡_, refl, sym, ap, _∙_, subst}
 use mathlib.Core.Bool.{false}
-use mathlib.Core.List.{List, [], _∷_}
-use Prim.Native.Nat.{ℕ, zero, suc, _+_, _-_, _*_, _≤_, _<_}
+use mathlib.Core.List.{List}
+use Prim.Native.Nat.{ℕ, _+_, _-_, _*_, _≤_, _<_}
 use native.Mathlib.Nat.{le-refl}
 use native.Mathlib.Omega.{arith}
 use lib.IntN.{ℤ, _+ℤ_}
-use lib.ListN.{length, take, drop}
+use lib.ListN.{length, take}
 use lib.Seq.{length-slice}
 use Rattle.ints.specs.Sizes.{Small}
 use Rattle.ints.proofs.Sizes.{small-more, small-add, small-reading}
@@ -21,6 +21,7 @@ use Rattle.window.specs.Calls.{IsReading}
 use Rattle.window.specs.Model as model
 use Rattle.window.specs.Model.{count}
 use Rattle.window.specs.Invariant.{Bounded, Invariant}
+use Rattle.window.proofs.Lists.{each-take, each-drop}
 use Rattle.window.proofs.Tiling.{ordered-count}
 use Rattle.window.proofs.Bounds.{bounded, sum-bound}
 use Rattle.deque.specs.Sums.{sumLimit}
@@ -33,6 +34,7 @@ use Rattle.engine.specs.declared.state.State.{State}
 use Rattle.engine.specs.Open.{readingSize, sizeLimit, openWith, FitsAggregate, FitsOpen}
 use Rattle.engine.specs.States.{Tables, Sound, Intact, withReading, Ready}
 use Rattle.engine.specs.Machine.{Machine, OpenIs, Holds, Lists, StateIs, Represents}
+use Rattle.engine.proofs.Aggregates.{holding-small}
 use Rattle.engine.proofs.Refinement.{open-start}
 
 -- ---- the open partial's sum
@@ -43,16 +45,12 @@ SmallOpen b Nothing = Unit {0}
 SmallOpen b Empty = Unit {0}
 SmallOpen b (Holding a) = Small b (a .sum)
 
--- of fewer than 4,096 readings it is at most 2^43
-fits-small : (n closed : ℕ) (a : Aggregate) → FitsAggregate n closed a → Small sizeLimit (a .sum)
-fits-small n closed a f = small-more ((n - a .start) * readingSize) sizeLimit (a .sum) (omega arith) (f .small)
-
--- and with one reading more it is within the bound that the rings ask
+-- with one reading more it is within the bound that the rings ask
 with-small : (n closed : ℕ) (v : ℤ) → IsReading v → (o : Open) → FitsOpen n closed o → SmallOpen sumLimit (openWith n v o)
 with-small n closed v r Nothing f = tt
 with-small n closed v r Empty f = small-more readingSize sumLimit v (omega arith) (small-reading v r)
 with-small n closed v r (Holding a) f =
-    small-more (sizeLimit + readingSize) sumLimit (a .sum +ℤ v) (omega arith) (small-add sizeLimit readingSize (a .sum) v (fits-small n closed a f) (small-reading v r))
+    small-more (sizeLimit + readingSize) sumLimit (a .sum +ℤ v) (omega arith) (small-add sizeLimit readingSize (a .sum) v (holding-small n closed (Holding a) a refl f) (small-reading v r))
 
 -- ---- a state that passes check 2
 
@@ -60,10 +58,6 @@ module _ (st : State) (ok : Sound st) where
   -- an open partial that holds readings fits
   holding-fits : (a : Aggregate) → st .partial ≡ Holding a → FitsAggregate (st .count) (st .closed) a
   holding-fits a e = subst (FitsOpen (st .count) (st .closed)) e (ok .partial)
-
-  -- so a reading can join it
-  pub holding-small : (a : Aggregate) → st .partial ≡ Holding a → Small sizeLimit (a .sum)
-  holding-small a e = fits-small (st .count) (st .closed) a (holding-fits a e)
 
   -- it is ready for a closing
   pub sound-ready : st .count ≤ countLimit → Ready st
@@ -76,7 +70,7 @@ module _ (st : State) (ok : Sound st) where
         minTotal = omega (arith, ok .minTotal, ok .early);
         partial = λ a e.
             let f : FitsAggregate (st .count) (st .closed) a = holding-fits a e in
-            (small-more sizeLimit sumLimit (a .sum) (omega arith) (holding-small a e), omega (arith, f .after, f .holds));
+            (small-more sizeLimit sumLimit (a .sum) (omega arith) (holding-small (st .count) (st .closed) (st .partial) a e (ok .partial)), omega (arith, f .after, f .holds));
       }
 
   -- and so it is with one reading more
@@ -93,18 +87,6 @@ module _ (st : State) (ok : Sound st) where
       }
 
 -- ---- what represents the model passes check 2
-
--- what holds of every element holds of the first n
-each-take : {A : Type 0} (P : A → Type 0) (n : ℕ) (xs : List A) → Each P xs → Each P (take n xs)
-each-take P zero xs h = tt
-each-take P (suc n) [] h = tt
-each-take P (suc n) (x ∷ xs) h = (h .0, each-take P n xs (h .1))
-
--- and of those after the first n
-each-drop : {A : Type 0} (P : A → Type 0) (n : ℕ) (xs : List A) → Each P xs → Each P (drop n xs)
-each-drop P zero xs h = h
-each-drop P (suc n) [] h = tt
-each-drop P (suc n) (x ∷ xs) h = each-drop P n xs (h .1)
 
 -- the sum of the readings from a + 1 to n is at most n - a readings in size
 stretch-small : (rs : List ℤ) (a : ℕ) → Each IsReading rs → Small ((length rs - a) * readingSize) (sum (between rs a (length rs)))

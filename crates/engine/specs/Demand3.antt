@@ -7,12 +7,12 @@ use mathlib.Core.Bool.{true}
 use mathlib.Core.List.{List, [], _∷_}
 use lib.IntN.{ℤ}
 use lib.ListN.{length}
-use Rattle.window.specs.Calls.{Call, start, register, withdraw, reading, totals, Outcome}
+use Rattle.window.specs.Calls.{Call, start, register, withdraw, reading, totals, Outcome, refused}
 use Rattle.window.specs.Model as model
-use Rattle.window.specs.Model.{count, initial, Ran, run}
+use Rattle.window.specs.Model.{count, initial, Ran, run, reached}
 use Rattle.registry.specs.Records.{used, Tidy}
 use Rattle.engine.specs.States.{longEnough}
-use Rattle.engine.specs.Machine.{Machine}
+use Rattle.engine.specs.Machine.{Machine, Represents}
 use Rattle.engine.specs.Contracts.{Ensures, ReadingEnsures, StartEnsures}
 
 -- a reading is given an answer table of so many places, with any content
@@ -63,3 +63,15 @@ pub record AgreesWith (r : Ran) (os : List Outcome) (m : Machine) : Type 0 where
 abbrev pub Demand3 : Type 0
 Demand3 = (fresh : Machine) → Fresh fresh → (calls : List Call) (outcomes : List Outcome) (m : Machine)
     → Performed fresh calls outcomes m → AgreesWith (run initial calls) outcomes m
+
+-- ---- beside it
+
+-- what came from a start by these calls represents the state that the model comes to by them
+abbrev pub FromStart : Type 0
+FromStart = (fresh : Machine) → Fresh fresh → (calls : List Call) (outcomes : List Outcome) (m : Machine)
+    → Performed fresh calls outcomes m → Represents (reached calls) m
+
+-- and no call on it is refused with 1 or 2
+abbrev pub NeverDamaged : Type 0
+NeverDamaged = (fresh : Machine) → Fresh fresh → (calls : List Call) (outcomes : List Outcome) (m : Machine)
+    → Performed fresh calls outcomes m → (c : Call) (o : Outcome) (m′ : Machine) → Performs c m o m′ → (k : ℕ) → o ≡ refused k → 3 ≤ k

@@ -4,7 +4,7 @@
 use mathlib.Core.Path.{_≡_, refl, sym, ap, _∙_, subst}
 use mathlib.Core.Bool.{Bool, true, false, _||_}
 use mathlib.Core.List.{List, [], _∷_, map}
-use Prim.Native.Nat.{ℕ, zero, suc, _+_, _≤_, _<_, min}
+use Prim.Native.Nat.{ℕ, _+_, _≤_, _<_, min}
 use native.Mathlib.Numerals.{add-one}
 use native.Mathlib.Omega.{arith}
 use lib.ListN.{length, getD, take, drop, length-take, length-map, drop-of-length-le}
@@ -12,6 +12,7 @@ use lib.Seq.{drop-cons, getD-take}
 use Rattle.window.specs.declared.query.Query.{Query}
 use Rattle.window.specs.Lists.{filter, any, Each}
 use Rattle.window.specs.Queries.{windowStart, horizon}
+use Rattle.window.proofs.Lists.{each-drop}
 use Rattle.window.proofs.Queries.{horizon-le-count, horizon-cons}
 
 -- the length of the list of which another is the image
@@ -19,12 +20,6 @@ pub mapped-length : {A B : Type 0} (f : A → B) (xs : List A) (n : ℕ) → len
 mapped-length f xs n e = sym (length-map xs f) ∙ e
 
 module _ {A : Type 0} where
-  -- P of every element, and so of every element from place i on
-  each-drop : (P : A → Type 0) (i : ℕ) (xs : List A) → Each P xs → Each P (drop i xs)
-  each-drop P zero xs h = h
-  each-drop P (suc i) [] h = tt
-  each-drop P (suc i) (x ∷ xs) h = each-drop P i xs (h .1)
-
   -- ---- a place that is not the end
 
   module _ (xs : List A) (c i : ℕ) (d : A) (l : i < c) (w : c ≤ length xs) where

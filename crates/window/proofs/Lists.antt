@@ -1,12 +1,12 @@
 -- The laws of tests, of `filter`, of `Each` and of aggregates over lists.
 -- Assumes nothing.
 use mathlib.Core.Path.{_≡_, refl, ap}
-use Prim.Native.Nat.{ℕ, suc, _+_, _≤_, _<_, zero-le, suc-le-suc}
+use Prim.Native.Nat.{ℕ, zero, suc, _+_, _≤_, _<_, zero-le, suc-le-suc}
 use native.Mathlib.Omega.{arith}
 use mathlib.Core.Bool.{Bool, true, false, not, _&&_, _||_, cond, and-true}
 use mathlib.Core.List.{List, [], _∷_, _++_, map}
 use lib.Dec.{leb}
-use lib.ListN.{length}
+use lib.ListN.{length, take, drop}
 use borrow.Author.Tests.{leb-true, leb-false}
 use Rattle.window.specs.Lists.{filter, all, any, Each}
 
@@ -56,6 +56,16 @@ module _ {A : Type 0} where
   pub each-append : (P : A → Type 0) (xs ys : List A) → Each P xs → Each P ys → Each P (xs ++ ys)
   each-append P [] ys h k = k
   each-append P (x ∷ xs) ys h k = (h .0, each-append P xs ys (h .1) k)
+
+  pub each-take : (P : A → Type 0) (n : ℕ) (xs : List A) → Each P xs → Each P (take n xs)
+  each-take P zero xs h = tt
+  each-take P (suc n) [] h = tt
+  each-take P (suc n) (x ∷ xs) h = (h .0, each-take P n xs (h .1))
+
+  pub each-drop : (P : A → Type 0) (n : ℕ) (xs : List A) → Each P xs → Each P (drop n xs)
+  each-drop P zero xs h = h
+  each-drop P (suc n) [] h = tt
+  each-drop P (suc n) (x ∷ xs) h = each-drop P n xs (h .1)
 
   pub each-filter : (P : A → Type 0) (p : A → Bool) (xs : List A) → Each P xs → Each P (filter p xs)
   each-filter P p [] h = tt

@@ -1,6 +1,6 @@
 -- The laws of the checks: what holds of a call that passes them, and that the fields which pass are those within the limits.
 -- Assumes nothing.
-use mathlib.Core.Path.{_≡_, refl, sym}
+use mathlib.Core.Path.{_≡_, refl, sym, ap, subst}
 use mathlib.Core.Bool.{Bool, true, false, _||_, cond}
 use mathlib.Core.List.{List, [], _∷_}
 use Prim.Native.Nat.{ℕ, _+_, _*_, _≤_, _<_}
@@ -10,6 +10,8 @@ use lib.ListN.{length}
 use borrow.Author.Tests.{leb-true, leb-false, le-leb, ltb-false, not-false}
 use Rattle.window.specs.declared.query.Query.{Query}
 use Rattle.window.specs.declared.refusal.Refusal.{Refusal}
+use Rattle.window.specs.declared.refusal.Refusal.the-variants.{TableTooShort}
+use Rattle.window.specs.declared.refusal.Verdict.{Verdict}
 use Rattle.window.specs.declared.refusal.Verdict.the-variants.{Passed, Refused}
 use Rattle.window.specs.Lists.{any, Each}
 use Rattle.window.specs.Queries.{Limits, numberLimit, kindLimit, lengthLimit, queryLimit, countLimit}
@@ -20,8 +22,26 @@ use Rattle.window.proofs.Lists.{and-left, and-right, or-neither, not-le
 abbrev NotApplying : Check → Type 0
 NotApplying c = c .applies ≡ false
 
-refused-passed : {X : Type 0} (r : Refusal) → Refused r ≡ Passed → X
+-- no verdict refuses and passes
+pub refused-passed : {X : Type 0} (r : Refusal) → Refused r ≡ Passed → X
 refused-passed r e = let z : _≡_ {A = ℕ} 0 1 = cc in absurd (omega arith)
+
+-- the refusal that a verdict gives
+abbrev refusalIn : Verdict → Refusal
+refusalIn Passed = TableTooShort
+refusalIn (Refused r) = r
+
+pub refused-same : (r r′ : Refusal) → Refused r ≡ Refused r′ → r ≡ r′
+refused-same r r′ e = ap refusalIn e
+
+-- what holds of every check's refusal holds of the one that is given
+pub refusal-each : (P : Refusal → Type 0) (cs : List Check) → Each (λ (c : Check). P (c .refusal)) cs → (r : Refusal) → firstRefusal cs ≡ Refused r → P r
+refusal-each P [] h r e = refused-passed r (sym e)
+refusal-each P (c ∷ cs) h r e = go (c .applies) e (λ k. refusal-each P cs (h .1) r k)
+  where
+    go : (b : Bool) → cond b (Refused (c .refusal)) (firstRefusal cs) ≡ Refused r → (firstRefusal cs ≡ Refused r → P r) → P r
+    go true k later = subst P (refused-same (c .refusal) r k) (h .0)
+    go false k later = later k
 
 -- where the checks pass, none applies
 passed-each : (cs : List Check) → firstRefusal cs ≡ Passed → Each NotApplying cs

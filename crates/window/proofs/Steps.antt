@@ -1,7 +1,7 @@
 -- What a call does to the model beside keeping its invariant: a refused call changes nothing, the horizon never falls (I7), and the readings are
 -- those of the accepted readings.
 -- Assumes nothing.
-use mathlib.Core.Path.{_≡_, refl, sym, ap, _∙_}
+use mathlib.Core.Path.{_≡_, refl, sym, ap, _∙_, subst}
 use mathlib.Core.Bool.{Bool, true, false, not}
 use mathlib.Core.Option.{Option, none, some}
 use mathlib.Core.List.{List, [], _∷_, _++_}
@@ -11,22 +11,30 @@ use native.Mathlib.Omega.{arith}
 use lib.IntN.{ℤ}
 use lib.ListN.{length, length-append}
 use Rattle.window.specs.declared.query.Query.{Query}
+use Rattle.window.specs.declared.refusal.Refusal.{Refusal}
 use Rattle.window.specs.declared.refusal.Verdict.{Verdict}
 use Rattle.window.specs.declared.refusal.Verdict.the-variants.{Passed, Refused}
 use Rattle.window.specs.Lists.{any, Each}
 use Rattle.window.specs.Queries.{edge, horizon}
-use Rattle.window.specs.Refusals.{firstRefusal, registerChecks, withdrawChecks, readingChecks, hasNumber}
-use Rattle.window.specs.Calls.{Call, start, register, withdraw, reading, totals, OfReading, Answer, accepted, refused}
+use Rattle.window.specs.Refusals.{refusalNumber, firstRefusal, fieldChecks, listChecks, registerChecks, withdrawChecks, readingChecks, hasNumber}
+use Rattle.window.specs.Calls.{Call, start, register, withdraw, reading, totals, OfReading, Answer, Outcome, accepted, refused}
 use Rattle.window.specs.Model.{State, count, closeAt, closeWhere, holdsReading, withQuery, afterRegister, afterWithdraw, appended, closeAtEdge, afterReading, Stepped, answers, answered, totalsOf, judged, newQuery, step}
 use Rattle.window.proofs.Lists.{each-append}
 use Rattle.window.proofs.Queries.{horizon-later, horizon-more, horizon-fewer}
 use Rattle.window.specs.Invariant.{Invariant}
+use Rattle.window.proofs.Refusals.{refusal-each}
 use Rattle.window.proofs.Preserved.{judged-keeps}
 use Rattle.window.proofs.Bounds.{bounded}
 
 -- ---- a refused call changes nothing
 
-accepted-refused : {X : Type 0} (ns : List ℕ) (bs : List Answer) (k : ℕ) → accepted ns bs ≡ refused k → X
+-- the number of a refused call
+abbrev pub numberOf : Outcome → ℕ
+numberOf (accepted ns given) = 0
+numberOf (refused k) = k
+
+-- no outcome accepts and refuses
+pub accepted-refused : {X : Type 0} (ns : List ℕ) (bs : List Answer) (k : ℕ) → accepted ns bs ≡ refused k → X
 accepted-refused ns bs k e = let z : _≡_ {A = ℕ} 0 1 = cc in absurd (omega arith)
 
 judged-refused : (v : Verdict) (s : State) (t : Stepped) (ns : List ℕ) (bs : List Answer) (k : ℕ) → t .outcome ≡ accepted ns bs
@@ -46,30 +54,58 @@ refused-unchanged s (reading v places) k e =
     judged-refused (firstRefusal (readingChecks (count s) (s .queries) places)) s _ (length given ∷ []) given k refl e
 refused-unchanged s totals k e = refl
 
+-- ---- which refusals the model gives
+
+judged-number : (v : Verdict) (s : State) (t : Stepped) (ns : List ℕ) (bs : List Answer) (k : ℕ) → t .outcome ≡ accepted ns bs → ((r : Refusal) → v ≡ Refused r → 3 ≤ refusalNumber r)
+    → (judged v s t) .outcome ≡ refused k → 3 ≤ k
+judged-number Passed s t ns bs k a h e = accepted-refused ns bs k (sym a ∙ e)
+judged-number (Refused r) s t ns bs k a h e = subst (λ (n : ℕ). 3 ≤ n) (ap numberOf e) (h r refl)
+
+-- none but 3 to 11: 1 and 2 are judged on tables and a state that it does not have
+pub refused-from-three : (s : State) (c : Call) (k : ℕ) → (step s c) .outcome ≡ refused k → 3 ≤ k
+unfolding step answered totalsOf registerChecks fieldChecks listChecks withdrawChecks readingChecks
+refused-from-three s start k e = accepted-refused (0 ∷ []) [] k e
+refused-from-three s (register number kind range slide) k e =
+    judged-number (firstRefusal (registerChecks (s .queries) number kind range slide)) s _ (0 ∷ []) [] k refl
+    (refusal-each (λ (r : Refusal). 3 ≤ refusalNumber r) (registerChecks (s .queries) number kind range slide)
+    (omega arith, (omega arith, (omega arith, (omega arith, (omega arith, (omega arith, tt))))))) e
+refused-from-three s (withdraw number) k e =
+    judged-number (firstRefusal (withdrawChecks (s .queries) number)) s _ (0 ∷ []) [] k refl
+    (refusal-each (λ (r : Refusal). 3 ≤ refusalNumber r) (withdrawChecks (s .queries) number) (omega arith, tt)) e
+refused-from-three s (reading v places) k e =
+    let given : List Answer = answers (afterReading s v) in
+    judged-number (firstRefusal (readingChecks (count s) (s .queries) places)) s _ (length given ∷ []) given k refl
+    (refusal-each (λ (r : Refusal). 3 ≤ refusalNumber r) (readingChecks (count s) (s .queries) places) (omega arith, (omega arith, tt))) e
+refused-from-three s totals k e = accepted-refused _ [] k e
+
 -- ---- readings and queries
 
 -- a closing changes neither
-close-keeps : (b : Bool) (o : Option ℕ) (s : State) → ((closeWhere b o s) .readings ≡ s .readings) × ((closeWhere b o s) .queries ≡ s .queries)
+pub close-keeps : (P : List ℤ → List Query → Type 0) (b : Bool) (o : Option ℕ) (s : State) → P (s .readings) (s .queries)
+    → P ((closeWhere b o s) .readings) ((closeWhere b o s) .queries)
 unfolding closeWhere closeAt
-close-keeps b none s = (refl, refl)
-close-keeps true (some a) s = (refl, refl)
-close-keeps false (some a) s = (refl, refl)
+close-keeps P b none s h = h
+close-keeps P true (some a) s h = h
+close-keeps P false (some a) s h = h
 
 pub reading-readings : (s : State) (v : ℤ) → (afterReading s v) .readings ≡ s .readings ++ (v ∷ [])
 unfolding afterReading closeAtEdge appended
-reading-readings s v = (close-keeps (any (edge (count (appended s v))) (s .queries)) (s .openStart) (appended s v)) .0
+reading-readings s v =
+    close-keeps (λ (rs : List ℤ) (qs : List Query). rs ≡ s .readings ++ (v ∷ [])) (any (edge (count (appended s v))) (s .queries)) (s .openStart) (appended s v) refl
 
 pub reading-queries : (s : State) (v : ℤ) → (afterReading s v) .queries ≡ s .queries
 unfolding afterReading closeAtEdge appended
-reading-queries s v = (close-keeps (any (edge (count (appended s v))) (s .queries)) (s .openStart) (appended s v)) .1
+reading-queries s v =
+    close-keeps (λ (rs : List ℤ) (qs : List Query). qs ≡ s .queries) (any (edge (count (appended s v))) (s .queries)) (s .openStart) (appended s v) refl
 
 pub register-readings : (s : State) (q : Query) → (afterRegister s q) .readings ≡ s .readings
 unfolding afterRegister withQuery
-register-readings s q = (close-keeps (holdsReading (count s) (s .openStart)) (s .openStart) s) .0
+register-readings s q = close-keeps (λ (rs : List ℤ) (qs : List Query). rs ≡ s .readings) (holdsReading (count s) (s .openStart)) (s .openStart) s refl
 
 pub register-queries : (s : State) (q : Query) → (afterRegister s q) .queries ≡ s .queries ++ (q ∷ [])
 unfolding afterRegister withQuery
-register-queries s q = ap (λ (qs : List Query). qs ++ (q ∷ [])) ((close-keeps (holdsReading (count s) (s .openStart)) (s .openStart) s) .1)
+register-queries s q =
+    close-keeps (λ (rs : List ℤ) (qs : List Query). qs ++ (q ∷ []) ≡ s .queries ++ (q ∷ [])) (holdsReading (count s) (s .openStart)) (s .openStart) s refl
 
 -- ---- every reading of the model was handed over by an accepted reading call
 

@@ -6,8 +6,6 @@ use Rattle.ints.proofs.Sizes.{most-is}
 use Rattle.engine.proofs.Places.{answer-stored}
 use Rattle.engine.proofs.answers.put_answer.Statement.{statement}
 use Rattle.engine.proofs.answers.put_answer.Tie as tie
-use Rattle.engine.proofs.answers.put_answer.Reads as reads
-use Rattle.engine.proofs.answers.put_answer.Lts as lts
 
 cast-answers : tie.Need-cast-answers
 cast-answers c = search needs

@@ -1,8 +1,7 @@
 -- `reading` meets its contract: a check refuses it, or it is taken, what is open closes at an edge, and the due queries are answered.
 -- Assumes nothing.
 use mathlib.Core.Path.{_≡_, sym, ap, _∙_, subst}
-use mathlib.Core.Bool.{true}
-use Prim.Native.Nat.{ℕ, _<_, _≤_}
+use Prim.Native.Nat.{ℕ, _≤_}
 use borrow.Author.Needs.{needs}
 use lib.IntN.{ℤ}
 use lib.ListN.{length}
@@ -17,11 +16,11 @@ use Rattle.registry.proofs.Judged.{intact-few, intact-limits, intact-origins}
 use Rattle.engine.specs.Machine.{Machine, machine}
 use Rattle.engine.specs.States.{tables, Ready, withReading}
 use Rattle.engine.proofs.Taking.{taken-ready, taken-count, taken-origins, taken-closed, Left, closed-left, due-fit}
-use Rattle.engine.proofs.Promises.{refused-reading, Passes, passes, accepted-reading, closed-long}
+use Rattle.engine.proofs.Accepting.{Passes, passes, accepted-reading}
+use Rattle.engine.proofs.Keeping.{closed-long}
+use Rattle.engine.proofs.Refusing.{refused-reading}
 use Rattle.engine.proofs.calls.reading.Statement.{statement}
 use Rattle.engine.proofs.calls.reading.Tie as tie
-use Rattle.engine.proofs.calls.reading.Reads as reads
-use Rattle.engine.proofs.calls.reading.Lts as lts
 
 -- state, list and tables as they were handed over
 abbrev given : tie.Start → Machine

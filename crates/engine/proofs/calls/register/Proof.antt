@@ -1,10 +1,8 @@
 -- `register` meets its contract: a check refuses it, or what is open closes and the query joins. Assumes nothing.
-use mathlib.Core.Path.{refl, sym, _∙_}
-use Prim.Native.Nat.{_<_, _≤_}
+use mathlib.Core.Path.{refl}
 use native.Mathlib.Omega.{arith}
 use borrow.Author.Needs.{needs}
 use Rattle.window.specs.Calls as calls
-use Rattle.window.specs.Queries.{countLimit}
 use Rattle.window.proofs.Refusals.{register-passed}
 use Rattle.registry.specs.Records.{used}
 use Rattle.registry.proofs.Judged.{intact-few, intact-origins, used-count}
@@ -12,11 +10,10 @@ use Rattle.registry.proofs.Scans.{mapped-length}
 use Rattle.engine.specs.Machine.{Machine, machine}
 use Rattle.engine.specs.States.{tables}
 use Rattle.engine.proofs.Soundness.{sound-ready}
-use Rattle.engine.proofs.Promises.{refused-reply, Passes, passes, joining, accepted-register}
+use Rattle.engine.proofs.Accepting.{Passes, passes, joining, accepted-register}
+use Rattle.engine.proofs.Refusing.{refused-reply}
 use Rattle.engine.proofs.calls.register.Statement.{statement}
 use Rattle.engine.proofs.calls.register.Tie as tie
-use Rattle.engine.proofs.calls.register.Reads as reads
-use Rattle.engine.proofs.calls.register.Lts as lts
 
 -- state, list and tables as they were handed over
 abbrev given : tie.Start → Machine

@@ -1,13 +1,14 @@
 -- `start` meets its contract: check 1 refuses it, or the six tables are zeroed and state and query list are fresh.
 -- Assumes nothing.
 use mathlib.Core.Path.{_≡_, sym, _∙_}
-use mathlib.Core.Bool.{true, false}
+use mathlib.Core.Bool.{true}
 use borrow.Author.Tests.{not-true, not-false}
 use borrow.Author.Needs.{needs}
 use Rattle.engine.specs.States.{Tables, tables, longEnough}
 use Rattle.engine.specs.Machine.{Machine, machine}
 use Rattle.engine.proofs.Boards.{Long, long-each, tables-are}
-use Rattle.engine.proofs.Promises.{refused-start, accepted-start}
+use Rattle.engine.proofs.Accepting.{accepted-start}
+use Rattle.engine.proofs.Refusing.{refused-start}
 use Rattle.engine.proofs.calls.start.Statement.{statement}
 use Rattle.engine.proofs.calls.start.Tie as tie
 

@@ -2,11 +2,10 @@
 use mathlib.Core.Path.{refl}
 use borrow.Author.Needs.{needs}
 use Rattle.window.specs.Calls as calls
-use Rattle.engine.proofs.Promises.{refused-call, passes, accepted-totals}
+use Rattle.engine.proofs.Accepting.{passes, accepted-totals}
+use Rattle.engine.proofs.Refusing.{refused-call}
 use Rattle.engine.proofs.calls.totals.Statement.{statement}
 use Rattle.engine.proofs.calls.totals.Tie as tie
-use Rattle.engine.proofs.calls.totals.Reads as reads
-use Rattle.engine.proofs.calls.totals.Lts as lts
 
 enough-requires : tie.Need-enough-requires
 enough-requires c κs = search needs

@@ -9,11 +9,10 @@ use Rattle.registry.proofs.Judged.{intact-few, used-count}
 use Rattle.registry.proofs.Scans.{mapped-length}
 use Rattle.engine.specs.Machine.{Machine, machine}
 use Rattle.engine.specs.States.{tables}
-use Rattle.engine.proofs.Promises.{refused-reply, Passes, passes, accepted-withdraw}
+use Rattle.engine.proofs.Accepting.{Passes, passes, accepted-withdraw}
+use Rattle.engine.proofs.Refusing.{refused-reply}
 use Rattle.engine.proofs.calls.withdraw.Statement.{statement}
 use Rattle.engine.proofs.calls.withdraw.Tie as tie
-use Rattle.engine.proofs.calls.withdraw.Reads as reads
-use Rattle.engine.proofs.calls.withdraw.Lts as lts
 
 -- state, list and tables as they were handed over
 abbrev given : tie.Start → Machine

@@ -2,7 +2,6 @@
 use mathlib.Core.Path.{sym, _∙_}
 use mathlib.Core.Bool.{true≢false}
 use borrow.Author.Needs.{needs}
-use Rattle.engine.specs.States.{Intact}
 use Rattle.engine.proofs.checks.intact.Statement.{statement}
 use Rattle.engine.proofs.checks.intact.Tie as tie
 

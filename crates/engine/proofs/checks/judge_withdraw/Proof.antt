@@ -1,5 +1,4 @@
 -- `judge_withdraw` meets its contract: checks 1 and 2, and then 9. Assumes nothing.
-use mathlib.Core.Path.{_≡_}
 use borrow.Author.Needs.{needs}
 use Rattle.window.specs.declared.refusal.Verdict.the-variants.{Passed}
 use Rattle.window.specs.Refusals.{firstRefusal, withdrawChecks}
@@ -8,10 +7,6 @@ use Rattle.registry.proofs.Judged.{intact-few}
 use Rattle.engine.proofs.Judging.{judged-first, judged-passed, judged-last}
 use Rattle.engine.proofs.checks.judge_withdraw.Statement.{statement}
 use Rattle.engine.proofs.checks.judge_withdraw.Tie as tie
-use Rattle.engine.proofs.checks.judge_withdraw.Reads as reads
-use Rattle.engine.proofs.checks.judge_withdraw.Lts as lts
-use Rattle.engine.proofs.checks.judge.Reads as judge-reads
-use Rattle.registry.proofs.queries.Queries.check_withdraw.Reads as check-withdraw-reads
 
 judge-requires : tie.Need-judge-requires
 judge-requires c κs = search needs

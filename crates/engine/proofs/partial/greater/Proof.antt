@@ -5,8 +5,6 @@ use Rattle.window.specs.Orders.{geZ}
 use Rattle.engine.proofs.Aggregates.{later-greater, earlier-greater}
 use Rattle.engine.proofs.partial.greater.Statement.{statement}
 use Rattle.engine.proofs.partial.greater.Tie as tie
-use Rattle.engine.proofs.partial.greater.Reads as reads
-use Rattle.engine.proofs.partial.greater.Lts as lts
 
 enum-told : tie.Need-enum-told
 enum-told c = search needs

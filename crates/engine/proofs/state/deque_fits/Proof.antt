@@ -3,10 +3,6 @@ use mathlib.Core.Bool.{false≢true}
 use borrow.Author.Needs.{needs}
 use Rattle.engine.proofs.state.deque_fits.Statement.{statement}
 use Rattle.engine.proofs.state.deque_fits.Tie as tie
-use Rattle.engine.proofs.state.deque_fits.Reads as reads
-use Rattle.engine.proofs.state.deque_fits.Lts as lts
-use Rattle.deque.proofs.ring.Ring.fits.Reads as fits-reads
-use Rattle.engine.proofs.state.total_fits.Reads as total-fits-reads
 
 fits-requires : tie.Need-fits-requires
 fits-requires c κs = search needs

@@ -4,8 +4,6 @@ use borrow.Author.Tests.{eqb-true, leb-true, le-leb, eq-eqb}
 use borrow.Author.Needs.{needs}
 use Rattle.engine.proofs.state.total_fits.Statement.{statement}
 use Rattle.engine.proofs.state.total_fits.Tie as tie
-use Rattle.engine.proofs.state.total_fits.Reads as reads
-use Rattle.engine.proofs.state.total_fits.Lts as lts
 
 returns : tie.Need-returns
 returns c = (λ e. omega (arith, eqb-true (c .before .args .total) 0 e), λ l. eq-eqb (c .before .args .total) 0 (omega arith))

@@ -4,8 +4,6 @@ use borrow.Author.Tests.{le-leb, lt-leb}
 use Rattle.deque.specs.Rings.{capacity}
 use Rattle.engine.proofs.tables.also_long.Statement.{statement}
 use Rattle.engine.proofs.tables.also_long.Tie as tie
-use Rattle.engine.proofs.tables.also_long.Reads as reads
-use Rattle.engine.proofs.tables.also_long.Lts as lts
 
 returns : tie.Need-returns
 returns c = rw (le-leb capacity (c .before .args .len) (omega arith)) refl

@@ -2,9 +2,6 @@ use borrow.Author.Needs.{needs}
 use Rattle.engine.specs.States.{enough}
 use Rattle.engine.proofs.tables.enough.Statement.{statement}
 use Rattle.engine.proofs.tables.enough.Tie as tie
-use Rattle.engine.proofs.tables.enough.Reads as reads
-use Rattle.engine.proofs.tables.enough.Lts as lts
-use Rattle.engine.proofs.tables.also_long.Reads as also-long-reads
 
 also-long-requires : tie.Need-also-long-requires
 also-long-requires c κs = search needs

@@ -7,8 +7,6 @@ use Rattle.deque.specs.Rings.{capacity}
 use Rattle.engine.proofs.Boards.{zero-more}
 use Rattle.engine.proofs.tables.zero_starts.Statement.{statement}
 use Rattle.engine.proofs.tables.zero_starts.Tie as tie
-use Rattle.engine.proofs.tables.zero_starts.Reads as reads
-use Rattle.engine.proofs.tables.zero_starts.Lts as lts
 
 -- the first p places are 0, and the others as they were
 abbrev Inv-loop : tie.InvT-loop

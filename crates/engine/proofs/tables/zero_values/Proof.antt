@@ -8,8 +8,6 @@ use Rattle.deque.specs.Rings.{capacity}
 use Rattle.engine.proofs.Boards.{zero-more}
 use Rattle.engine.proofs.tables.zero_values.Statement.{statement}
 use Rattle.engine.proofs.tables.zero_values.Tie as tie
-use Rattle.engine.proofs.tables.zero_values.Reads as reads
-use Rattle.engine.proofs.tables.zero_values.Lts as lts
 
 -- the first p places are 0, and the others as they were
 abbrev Inv-loop : tie.InvT-loop

@@ -13,10 +13,6 @@ use Rattle.engine.specs.Open.{sizeLimit}
 use Rattle.engine.proofs.Aggregates.{greater-is, same-aggregate, longer-fits}
 use Rattle.engine.proofs.partial.Aggregate.extended.Statement.{statement}
 use Rattle.engine.proofs.partial.Aggregate.extended.Tie as tie
-use Rattle.engine.proofs.partial.Aggregate.extended.Reads as reads
-use Rattle.engine.proofs.partial.Aggregate.extended.Lts as lts
-use Rattle.engine.proofs.partial.greater.Reads as greater-reads
-use Rattle.ints.proofs.add_widened.Reads as add-widened-reads
 
 -- the sum and the reading as the machine has them
 sum-is : (s : tie.Start) → toZ w64 (ofZ w64 (s .args .self .sum)) ≡ s .args .self .sum

@@ -3,8 +3,6 @@ use Rattle.engine.proofs.Widened.{wide-fits, wide-is}
 use Rattle.engine.proofs.Aggregates.{same-aggregate}
 use Rattle.engine.proofs.partial.Aggregate.first.Statement.{statement}
 use Rattle.engine.proofs.partial.Aggregate.first.Tie as tie
-use Rattle.engine.proofs.partial.Aggregate.first.Reads as reads
-use Rattle.engine.proofs.partial.Aggregate.first.Lts as lts
 
 cast-wide : tie.Need-cast-wide
 cast-wide c = wide-fits (c .fits .value)

@@ -5,9 +5,6 @@ use mir.Syntax.{w64}
 use mir.Facts.{toZ-ofZ}
 use Rattle.engine.proofs.partial.Aggregate.fits.Statement.{statement}
 use Rattle.engine.proofs.partial.Aggregate.fits.Tie as tie
-use Rattle.engine.proofs.partial.Aggregate.fits.Reads as reads
-use Rattle.engine.proofs.partial.Aggregate.fits.Lts as lts
-use Rattle.ints.proofs.is_small.Reads as is-small-reads
 
 returns : tie.Need-returns
 returns c = (λ e. absurd (false≢true e), λ f. absurd (omega arith))

@@ -5,10 +5,6 @@ use Rattle.engine.specs.declared.partial.Open.the-variants.{Holding}
 use Rattle.engine.specs.Open.{firstReading, extended}
 use Rattle.engine.proofs.partial.Open.extended.Statement.{statement}
 use Rattle.engine.proofs.partial.Open.extended.Tie as tie
-use Rattle.engine.proofs.partial.Open.extended.Reads as reads
-use Rattle.engine.proofs.partial.Open.extended.Lts as lts
-use Rattle.engine.proofs.partial.Aggregate.extended.Reads as extended-reads
-use Rattle.engine.proofs.partial.Aggregate.first.Reads as first-reads
 
 enum-told : tie.Need-enum-told
 enum-told c = search needs

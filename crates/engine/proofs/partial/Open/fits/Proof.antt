@@ -2,9 +2,6 @@ use mathlib.Core.Path.{refl}
 use borrow.Author.Needs.{needs}
 use Rattle.engine.proofs.partial.Open.fits.Statement.{statement}
 use Rattle.engine.proofs.partial.Open.fits.Tie as tie
-use Rattle.engine.proofs.partial.Open.fits.Reads as reads
-use Rattle.engine.proofs.partial.Open.fits.Lts as lts
-use Rattle.engine.proofs.partial.Aggregate.fits.Reads as fits-reads
 
 enum-told : tie.Need-enum-told
 enum-told c = search needs

@@ -11,10 +11,6 @@ use Rattle.engine.proofs.Boards.{Long, long-each}
 use Rattle.engine.proofs.Closings.{total-fits, closed-fits, sum-is, sums-closed, deque-closed}
 use Rattle.engine.proofs.state.State.close.Statement.{statement}
 use Rattle.engine.proofs.state.State.close.Tie as tie
-use Rattle.engine.proofs.state.State.close.Reads as reads
-use Rattle.engine.proofs.state.State.close.Lts as lts
-use Rattle.deque.proofs.extremes.Deque.close.Reads as extremes-Deque-close-reads
-use Rattle.deque.proofs.sums.Sums.close.Reads as sums-Sums-close-reads
 
 -- the tables as they were lent
 abbrev board : tie.Start → Tables

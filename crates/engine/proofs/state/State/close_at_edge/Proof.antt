@@ -4,8 +4,6 @@ use borrow.Author.Needs.{needs}
 use Rattle.engine.proofs.Closings.{closed-there, not-closed}
 use Rattle.engine.proofs.state.State.close_at_edge.Statement.{statement}
 use Rattle.engine.proofs.state.State.close_at_edge.Tie as tie
-use Rattle.engine.proofs.state.State.close_at_edge.Reads as reads
-use Rattle.engine.proofs.state.State.close_at_edge.Lts as lts
 
 -- the place after the closing, from the end; the place where the test held; and the start
 abbrev closing : tie.After-min-values → tie.After-close-open

@@ -3,8 +3,6 @@ use borrow.Author.Needs.{needs}
 use Rattle.engine.proofs.Closings.{nothing-closed, empty-closed, holding-closed}
 use Rattle.engine.proofs.state.State.close_open.Statement.{statement}
 use Rattle.engine.proofs.state.State.close_open.Tie as tie
-use Rattle.engine.proofs.state.State.close_open.Reads as reads
-use Rattle.engine.proofs.state.State.close_open.Lts as lts
 
 -- the place after the closing, from the end; the place after the horizon was found; and the start
 abbrev closing : tie.After-min-values → tie.After-close

@@ -5,11 +5,6 @@ use borrow.Author.Tests.{not-true, not-false}
 use borrow.Author.Needs.{needs}
 use Rattle.engine.proofs.state.State.fits.Statement.{statement}
 use Rattle.engine.proofs.state.State.fits.Tie as tie
-use Rattle.engine.proofs.state.State.fits.Reads as reads
-use Rattle.engine.proofs.state.State.fits.Lts as lts
-use Rattle.deque.proofs.sums.Sums.fits.Reads as sums-Sums-fits-reads
-use Rattle.engine.proofs.partial.Open.fits.Reads as partial-Open-fits-reads
-use Rattle.engine.proofs.state.deque_fits.Reads as deque-fits-reads
 
 -- a test that failed did not pass
 refused : {t : Bool} → not t ≡ true → t ≡ true → ⊥

@@ -3,9 +3,6 @@ use borrow.Author.Tests.{eq-eqb, ne-eqb}
 use borrow.Author.Needs.{needs}
 use Rattle.engine.proofs.state.State.open_while_any.Statement.{statement}
 use Rattle.engine.proofs.state.State.open_while_any.Tie as tie
-use Rattle.engine.proofs.state.State.open_while_any.Reads as reads
-use Rattle.engine.proofs.state.State.open_while_any.Lts as lts
-use Rattle.engine.proofs.state.State.with_partial.Reads as with-partial-reads
 
 with-partial-requires : tie.Need-with-partial-requires
 with-partial-requires c κs = search needs

@@ -11,12 +11,6 @@ use Rattle.engine.proofs.Boards.{Long, long-each}
 use Rattle.engine.proofs.Places.{value-sum, value-count, value-maximum, value-minimum}
 use Rattle.engine.proofs.state.State.window_value.Statement.{statement}
 use Rattle.engine.proofs.state.State.window_value.Tie as tie
-use Rattle.engine.proofs.state.State.window_value.Reads as reads
-use Rattle.engine.proofs.state.State.window_value.Lts as lts
-use Rattle.deque.proofs.extremes.Deque.extreme_from.Reads as extreme-from-reads
-use Rattle.deque.proofs.sums.Sums.sum_from.Reads as sum-from-reads
-use Rattle.window.proofs.query.Query.window_count.Reads as window-count-reads
-use Rattle.window.proofs.query.Query.window_start.Reads as window-start-reads
 
 -- the tables as they were lent
 abbrev board : tie.Start → Tables

@@ -7,9 +7,6 @@ use Rattle.engine.specs.States.{withReading, withPartial}
 use Rattle.engine.proofs.Aggregates.{holding-small}
 use Rattle.engine.proofs.state.State.with_reading.Statement.{statement}
 use Rattle.engine.proofs.state.State.with_reading.Tie as tie
-use Rattle.engine.proofs.state.State.with_reading.Reads as reads
-use Rattle.engine.proofs.state.State.with_reading.Lts as lts
-use Rattle.engine.proofs.partial.Open.extended.Reads as extended-reads
 
 extended-requires : tie.Need-extended-requires
 extended-requires c κs = λ a e. let s = c .args .self in holding-small (s .count) (s .closed) (s .partial) a e (c .pre .0 .partial)

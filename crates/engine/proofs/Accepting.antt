@@ -1,202 +1,43 @@
--- How each way through an open call comes to what the call promises: one law a way.
+-- How an accepted call comes to what it promises: one law a call.
 -- Assumes nothing.
 use mathlib.Core.Path.{_≡_, refl, sym, ap, _∙_, subst}
-use mathlib.Core.Bool.{Bool, true, false, true≢false, not, cond}
+use mathlib.Core.Bool.{Bool, true, true≢false, not}
 use mathlib.Core.List.{List, [], _∷_, _++_, map}
-use Prim.Native.Nat.{ℕ, zero, suc, _+_, _*_, _≤_, _<_}
+use Prim.Native.Nat.{ℕ, _+_, _*_}
 use native.Mathlib.Omega.{arith}
 use lib.Dec.{leb}
 use borrow.Author.Tests.{le-leb}
 use Rattle.deque.specs.Rings.{capacity}
-use lib.IntN.{ℤ, pos, natAbs}
+use lib.IntN.{ℤ, pos}
 use lib.ListN.{length, length-append, drop, replicate, length-replicate}
 use Rattle.window.specs.declared.query.Query.{Query}
-use Rattle.window.specs.declared.refusal.Refusal.{Refusal}
-use Rattle.window.specs.declared.refusal.Refusal.the-variants.{TableTooShort, Damaged}
 use Rattle.window.specs.declared.refusal.Verdict.{Verdict}
-use Rattle.window.specs.declared.refusal.Verdict.the-variants.{Passed, Refused}
-use Rattle.window.specs.Lists.{filter, any, Each}
+use Rattle.window.specs.declared.refusal.Verdict.the-variants.{Passed}
+use Rattle.window.specs.Lists.{filter, any}
 use Rattle.window.specs.Queries.{edge, horizon}
-use Rattle.window.specs.Refusals.{refusalNumber, Check, firstRefusal, fieldChecks, listChecks, registerChecks, withdrawChecks, readingChecks, hasNumber, dueAt, answerPlaces}
-use Rattle.window.specs.Calls.{IsReading, Call, start, register, withdraw, reading, totals, OfReading, Answer, Outcome, accepted, refused}
+use Rattle.window.specs.Refusals.{hasNumber, dueAt, answerPlaces}
+use Rattle.window.specs.Calls.{IsReading, Call, register, withdraw, reading, totals, OfReading, Answer, accepted}
 use Rattle.window.specs.Model as model
-use Rattle.window.specs.Model.{count, initial, afterRegister, afterWithdraw, afterReading, answers, Stepped, done, answered, totalsOf, judged, newQuery, step}
+use Rattle.window.specs.Model.{count, afterWithdraw, afterReading, answers, Stepped, answered, totalsOf, judged, newQuery, step}
 use Rattle.window.specs.Invariant.{Invariant}
 use Rattle.window.proofs.Preserved.{initial-invariant, step-invariant}
-use Rattle.window.proofs.Steps.{step-readings, register-queries, reading-queries, reading-readings}
+use Rattle.window.proofs.Steps.{accepted-refused, step-readings, register-queries, reading-queries}
 use Rattle.registry.specs.declared.queries.Queries.{Queries}
 use Rattle.registry.specs.Records.{used, Tidy}
-use Rattle.engine.specs.declared.partial.Open.{Open}
-use Rattle.engine.specs.declared.partial.Open.the-variants.{Nothing, Empty, Holding}
-use Rattle.engine.specs.declared.calls.Answered.{Answered}
-use Rattle.engine.specs.declared.calls.ReadingReply.{ReadingReply}
-use Rattle.engine.specs.declared.calls.Reply.{Reply}
+use Rattle.engine.specs.declared.partial.Open.the-variants.{Empty}
 use Rattle.engine.specs.declared.state.State.{State}
-use Rattle.engine.specs.States.{Tables, longEnough, enough, zeroed, Kept, TablesKept, Intact, Judged, isShort, isDamaged, isJudged, FreshState, withReading, withPartial, openWhileAny, OpenClosed, ClosedWhere, Closed}
-use Rattle.engine.specs.Answers.{placesOf, places, answeredPlaces, answersIn, answerFrom, InOrder}
+use Rattle.engine.specs.States.{Tables, longEnough, enough, zeroed, TablesKept, Intact, Judged, FreshState, withReading, withPartial, openWhileAny, OpenClosed, ClosedWhere}
+use Rattle.engine.specs.Answers.{places, answeredPlaces, answersIn, answerFrom, InOrder}
 use Rattle.engine.specs.Machine.{Machine, machine, Lists, StateIs, Represents}
-use Rattle.engine.specs.Outcomes.{verdictOutcome, readingOutcome}
-use Rattle.engine.specs.Contracts.{InRows, rows, Ensures, written, ReadingEnsures, zeroedTables, StartEnsures}
+use Rattle.engine.specs.Contracts.{Ensures, written, ReadingEnsures, zeroedTables, StartEnsures}
 use Rattle.engine.proofs.Refinement.{read-is}
 use Rattle.engine.proofs.Registration.{registered-is, withdrawn-is, fresh-is}
 use Rattle.engine.proofs.Answering.{in-order, answers-are}
-use Rattle.engine.proofs.Soundness.{represents-intact}
+use Rattle.engine.proofs.Stepping.{verdictOf, acceptedStep, step-judged, same-verdict}
+use Rattle.engine.proofs.Keeping.{tables-same, kept-long, open-closed-kept, closed-where-kept}
 use Rattle.engine.proofs.Judging.{judged-passed}
 
--- ---- the model's step, as a verdict and what follows on acceptance
-
--- what a call's own checks come to, with n readings taken and these queries registered
-abbrev pub verdictOf : Call → ℕ → List Query → Verdict
-verdictOf start n qs = Passed
-verdictOf (register number kind range slide) n qs = firstRefusal (registerChecks qs number kind range slide)
-verdictOf (withdraw number) n qs = firstRefusal (withdrawChecks qs number)
-verdictOf (reading v places) n qs = firstRefusal (readingChecks n qs places)
-verdictOf totals n qs = Passed
-
--- the accepted call
-abbrev pub acceptedStep : model.State → Call → Stepped
-acceptedStep s start = done initial
-acceptedStep s (register number kind range slide) = done (afterRegister s (newQuery s number kind range slide))
-acceptedStep s (withdraw number) = done (afterWithdraw s number)
-acceptedStep s (reading v places) = answered (afterReading s v)
-acceptedStep s totals = totalsOf s
-
-step-judged : (s : model.State) (c : Call) → step s c ≡ judged (verdictOf c (count s) (s .queries)) s (acceptedStep s c)
-unfolding step
-step-judged s start = refl
-step-judged s (register number kind range slide) = refl
-step-judged s (withdraw number) = refl
-step-judged s (reading v places) = refl
-step-judged s totals = refl
-
--- ---- a call's own rows
-
--- the refusal that a verdict gives
-abbrev refusalIn : Verdict → Refusal
-refusalIn Passed = TableTooShort
-refusalIn (Refused r) = r
-
--- what holds of every check's refusal holds of the one that is given
-refusal-of : (P : Refusal → Type 0) (cs : List Check) → Each (λ (c : Check). P (c .refusal)) cs → (r : Refusal) → firstRefusal cs ≡ Refused r → P r
-refusal-of P [] h r e = let z : _≡_ {A = ℕ} 0 1 = cc in absurd (omega arith)
-refusal-of P (c ∷ cs) h r e = go (c .applies) e (λ i. refusal-of P cs (h .1) r i)
-  where
-    go : (b : Bool) → cond b (Refused (c .refusal)) (firstRefusal cs) ≡ Refused r → (firstRefusal cs ≡ Refused r → P r) → P r
-    go true i later = subst P (ap refusalIn i) (h .0)
-    go false i later = later i
-
--- the number of a refusal by a call's own checks is in its rows
-own-row : (c : Call) (n : ℕ) (qs : List Query) (r : Refusal) → verdictOf c n qs ≡ Refused r → InRows c (refusalNumber r)
-unfolding registerChecks fieldChecks listChecks withdrawChecks readingChecks
-own-row start n qs r e = let z : _≡_ {A = ℕ} 0 1 = cc in absurd (omega arith)
-own-row (register number kind range slide) n qs r e =
-    refusal-of (λ (x : Refusal). InRows (register number kind range slide) (refusalNumber x)) (registerChecks qs number kind range slide)
-    (refl, (refl, (refl, (refl, (refl, (refl, tt)))))) r e
-own-row (withdraw number) n qs r e =
-    refusal-of (λ (x : Refusal). InRows (withdraw number) (refusalNumber x)) (withdrawChecks qs number) (refl, tt) r e
-own-row (reading v places) n qs r e =
-    refusal-of (λ (x : Refusal). InRows (reading v places) (refusalNumber x)) (readingChecks n qs places) (refl, (refl, tt)) r e
-own-row totals n qs r e = let z : _≡_ {A = ℕ} 0 1 = cc in absurd (omega arith)
-
--- ---- refusals
-
-accepted-refused : {X : Type 0} (ns : List ℕ) (given : List Answer) (k : ℕ) → accepted ns given ≡ refused k → X
-accepted-refused ns given k e = let z : _≡_ {A = ℕ} 0 1 = cc in absurd (omega arith)
-
--- the number of a refused call
-abbrev numberOf : Outcome → ℕ
-numberOf (accepted ns given) = 0
-numberOf (refused k) = k
-
-kept-same : {A : Type 0} (t : List A) → Kept t t
-kept-same t = record { length = refl; beyond = refl }
-
-pub tables-same : (t : Tables) → TablesKept t t
-tables-same t =
-    record {
-      starts = kept-same (t .starts);
-      sums = kept-same (t .sums);
-      maxStarts = kept-same (t .maxStarts);
-      maxValues = kept-same (t .maxValues);
-      minStarts = kept-same (t .minStarts);
-      minValues = kept-same (t .minValues);
-    }
-
--- the queries and the count on which a call is judged are those of the model
-same-verdict : (c : Call) (s : model.State) (m : Machine) → Represents s m → verdictOf c (m .state .count) (used (m .queries)) ≡ verdictOf c (count s) (s .queries)
-same-verdict c s m rep = rw (rep .state .count, rep .queries .used)
-
--- a call other than start that any check refuses
-pub refused-call : (c : Call) (m : Machine) (long : Bool) (w : Verdict) (r : Refusal) → InRows c 1 → InRows c 2
-    → long ≡ longEnough (m .tables) → Judged long (m .state) (m .queries) (verdictOf c (m .state .count) (used (m .queries))) w
-    → w ≡ Refused r → Ensures c m (refused (refusalNumber r)) m
-refused-call c m long w r one two same (isShort f) i =
-    let e : longEnough (m .tables) ≡ false = sym same ∙ f in
-    let n : 1 ≡ refusalNumber r = ap (λ (x : Verdict). refusalNumber (refusalIn x)) i in
-    record {
-      short = λ k. ap refused (sym n);
-      broken = λ k d. absurd (true≢false (sym k ∙ e));
-      agrees = λ s rep. absurd (true≢false (sym (rep .long) ∙ e));
-      represents = λ s rep. absurd (true≢false (sym (rep .long) ∙ e));
-      unchanged = λ k j. refl;
-      own = λ k j. subst (InRows c) (n ∙ ap numberOf j) one;
-      kept = tables-same (m .tables);
-    }
-refused-call c m long w r one two same (isDamaged l f) i =
-    let e : longEnough (m .tables) ≡ true = sym same ∙ l in
-    let n : 2 ≡ refusalNumber r = ap (λ (x : Verdict). refusalNumber (refusalIn x)) i in
-    record {
-      short = λ k. absurd (true≢false (sym e ∙ k));
-      broken = λ k d. ap refused (sym n);
-      agrees = λ s rep. absurd (f (represents-intact s m rep));
-      represents = λ s rep. absurd (f (represents-intact s m rep));
-      unchanged = λ k j. refl;
-      own = λ k j. subst (InRows c) (n ∙ ap numberOf j) two;
-      kept = tables-same (m .tables);
-    }
-refused-call c m long w r one two same (isJudged l f) i =
-    let e : longEnough (m .tables) ≡ true = sym same ∙ l in
-    record {
-      short = λ k. absurd (true≢false (sym e ∙ k));
-      broken = λ k d. absurd (true≢false (sym d ∙ f .list));
-      agrees = λ s rep. sym (ap (λ (x : Stepped). x .outcome) (step-refused s rep));
-      represents = λ s rep. subst (λ (x : Stepped). Represents (x .state) m) (sym (step-refused s rep)) rep;
-      unchanged = λ k j. refl;
-      own = λ k j. subst (InRows c) (ap numberOf j) (own-row c (m .state .count) (used (m .queries)) r i);
-      kept = tables-same (m .tables);
-    }
-  where
-    step-refused : (s : model.State) → Represents s m → step s c ≡ record { state = s; outcome = refused (refusalNumber r) }
-    step-refused s rep = step-judged s c ∙ ap (λ (x : Verdict). judged x s (acceptedStep s c)) (sym (same-verdict c s m rep) ∙ i)
-
--- what a refused call hands back is what it was given
-abbrev refusedWith : Refusal → Machine → Reply
-refusedWith r m = record { verdict = Refused r; state = m .state; queries = m .queries }
-
-pub refused-reply : (c : Call) (m : Machine) (long : Bool) (w : Verdict) (r : Refusal) (reply : Reply) → InRows c 1 → InRows c 2
-    → long ≡ longEnough (m .tables) → Judged long (m .state) (m .queries) (verdictOf c (m .state .count) (used (m .queries))) w
-    → w ≡ Refused r → reply ≡ refusedWith r m → Ensures c m (verdictOutcome (reply .verdict)) (machine (reply .state) (reply .queries) (m .tables))
-refused-reply c m long w r reply one two same j i is =
-    subst (λ (x : Reply). Ensures c m (verdictOutcome (x .verdict)) (machine (x .state) (x .queries) (m .tables))) (sym is)
-    (refused-call c m long w r one two same j i)
-
 -- ---- acceptances
-
--- tables that are kept are as long as they were
-kept-long : (t t′ : Tables) → TablesKept t t′ → longEnough t ≡ true → longEnough t′ ≡ true
-kept-long t t′ k e =
-    rw (k .starts .length, k .sums .length, k .maxStarts .length, k .maxValues .length, k .minStarts .length, k .minValues .length) e
-
--- a closing keeps the tables
-pub open-closed-kept : (o : Open) (h : ℕ) (st : State) (t : Tables) (st′ : State) (t′ : Tables) → OpenClosed o h st t st′ t′ → TablesKept t t′
-open-closed-kept Nothing h st t st′ t′ c = subst (TablesKept t) (sym (c .1)) (tables-same t)
-open-closed-kept Empty h st t st′ t′ c = subst (TablesKept t) (sym (c .1)) (tables-same t)
-open-closed-kept (Holding a) h st t st′ t′ c = c .kept
-
-pub closed-where-kept : (b : Bool) (h : ℕ) (st : State) (t : Tables) (st′ : State) (t′ : Tables) → ClosedWhere b h st t st′ t′ → TablesKept t t′
-unfolding ClosedWhere
-closed-where-kept true h st t st′ t′ c = open-closed-kept (st .partial) h st t st′ t′ c
-closed-where-kept false h st t st′ t′ c = subst (TablesKept t) (sym (c .1)) (tables-same t)
 
 -- a call other than start that every check passes
 pub record Passes (c : Call) (m : Machine) : Type 0 where
@@ -303,19 +144,6 @@ accepted-totals m passed =
 
 -- ---- a reading
 
--- a reading that any check refuses writes no place
-pub refused-reading : (v : ℤ) (before : List ℤ) (m : Machine) (long : Bool) (w : Verdict) (r : Refusal)
-    → long ≡ longEnough (m .tables) → Judged long (m .state) (m .queries) (firstRefusal (readingChecks (m .state .count) (used (m .queries)) (length before))) w
-    → w ≡ Refused r → (reply : ReadingReply) → reply ≡ record { outcome = Answered.Refused r; state = m .state }
-    → ReadingEnsures v before before m (readingOutcome (reply .outcome) before) (machine (reply .state) (m .queries) (m .tables))
-refused-reading v before m long w r same j i reply is =
-    subst (λ (x : ReadingReply). ReadingEnsures v before before m (readingOutcome (x .outcome) before) (machine (x .state) (m .queries) (m .tables))) (sym is)
-    (record { ensures = refused-call (reading v (length before)) m long w r refl refl same j i; places = refl; uncut = λ e. refl })
-
--- after a closing the tables are as long as they were
-pub closed-long : (b : Bool) (h : ℕ) (st : State) (t : Tables) (st′ : State) (t′ : Tables) → ClosedWhere b h st t st′ t′ → longEnough t ≡ true → longEnough t′ ≡ true
-closed-long b h st t st′ t′ c = kept-long t t′ (closed-where-kept b h st t st′ t′ c)
-
 -- the answers that are read from places are those that were written there
 answers-read : (given : List Answer) (rest : List ℤ) → answersIn (length given) (places given ++ rest) ≡ given
 answers-read [] rest = refl
@@ -371,20 +199,6 @@ accepted-reading v before after m k given st′ t′ passed small took =
         ∙ answers-are (afterReading s v) st′ t′ (subst Invariant (stepped s rep) (step-invariant s c (rep .reached))) (is s rep)
 
 -- ---- start
-
--- a start that check 1 refuses
-pub refused-start : (m : Machine) (reply : Reply) → longEnough (m .tables) ≡ false → reply ≡ refusedWith TableTooShort m
-    → StartEnsures m (verdictOutcome (reply .verdict)) (machine (reply .state) (reply .queries) (m .tables))
-refused-start m reply e is =
-    subst (λ (x : Reply). StartEnsures m (verdictOutcome (x .verdict)) (machine (x .state) (x .queries) (m .tables))) (sym is)
-    (record {
-      short = λ k. refl;
-      accepts = λ k. absurd (true≢false (sym k ∙ e));
-      represents = λ k. absurd (true≢false (sym k ∙ e));
-      zeroes = λ k. absurd (true≢false (sym k ∙ e));
-      unchanged = λ k j. refl;
-      own = λ k j. subst (InRows start) (ap numberOf j) refl;
-    })
 
 -- a table is long enough where its first 4,096 places are 0
 zeroed-long : {A : Type 0} (nought : A) (t : List A) → leb capacity (length (zeroed nought t)) ≡ true

@@ -1,0 +1,48 @@
+-- Tables beyond their first 4,096 places, and their lengths, over a call.
+-- Assumes nothing.
+use mathlib.Core.Path.{_≡_, refl, sym, subst}
+use mathlib.Core.Bool.{Bool, true, false}
+use mathlib.Core.List.{List}
+use Prim.Native.Nat.{ℕ}
+use lib.ListN.{length}
+use Rattle.engine.specs.declared.partial.Open.{Open}
+use Rattle.engine.specs.declared.partial.Open.the-variants.{Nothing, Empty, Holding}
+use Rattle.engine.specs.declared.state.State.{State}
+use Rattle.engine.specs.States.{Tables, longEnough, Kept, TablesKept, OpenClosed, ClosedWhere}
+
+-- ---- tables that are kept
+
+-- what does not change is kept
+kept-same : {A : Type 0} (t : List A) → Kept t t
+kept-same t = record { length = refl; beyond = refl }
+
+pub tables-same : (t : Tables) → TablesKept t t
+tables-same t =
+    record {
+      starts = kept-same (t .starts);
+      sums = kept-same (t .sums);
+      maxStarts = kept-same (t .maxStarts);
+      maxValues = kept-same (t .maxValues);
+      minStarts = kept-same (t .minStarts);
+      minValues = kept-same (t .minValues);
+    }
+
+-- tables that are kept are as long as they were
+pub kept-long : (t t′ : Tables) → TablesKept t t′ → longEnough t ≡ true → longEnough t′ ≡ true
+kept-long t t′ k e =
+    rw (k .starts .length, k .sums .length, k .maxStarts .length, k .maxValues .length, k .minStarts .length, k .minValues .length) e
+
+-- a closing keeps the tables
+pub open-closed-kept : (o : Open) (h : ℕ) (st : State) (t : Tables) (st′ : State) (t′ : Tables) → OpenClosed o h st t st′ t′ → TablesKept t t′
+open-closed-kept Nothing h st t st′ t′ c = subst (TablesKept t) (sym (c .1)) (tables-same t)
+open-closed-kept Empty h st t st′ t′ c = subst (TablesKept t) (sym (c .1)) (tables-same t)
+open-closed-kept (Holding a) h st t st′ t′ c = c .kept
+
+pub closed-where-kept : (b : Bool) (h : ℕ) (st : State) (t : Tables) (st′ : State) (t′ : Tables) → ClosedWhere b h st t st′ t′ → TablesKept t t′
+unfolding ClosedWhere
+closed-where-kept true h st t st′ t′ c = open-closed-kept (st .partial) h st t st′ t′ c
+closed-where-kept false h st t st′ t′ c = subst (TablesKept t) (sym (c .1)) (tables-same t)
+
+-- after a closing the tables are as long as they were
+pub closed-long : (b : Bool) (h : ℕ) (st : State) (t : Tables) (st′ : State) (t′ : Tables) → ClosedWhere b h st t st′ t′ → longEnough t ≡ true → longEnough t′ ≡ true
+closed-long b h st t st′ t′ c = kept-long t t′ (closed-where-kept b h st t st′ t′ c)
