@@ -26,9 +26,11 @@ use Rattle.registry.specs.declared.queries.Queries.{Queries}
 use Rattle.registry.specs.Records.{used, Tidy}
 use Rattle.engine.specs.declared.partial.Open.the-variants.{Empty}
 use Rattle.engine.specs.declared.state.State.{State}
-use Rattle.engine.specs.States.{Tables, longEnough, enough, zeroed, TablesKept, Intact, Judged, FreshState, withReading, withPartial, openWhileAny, OpenClosed, ClosedWhere}
+use Rattle.engine.specs.Tables.{Tables, longEnough, enough, zeroed, TablesKept}
+use Rattle.engine.specs.States.{Intact, Judged, FreshState, withReading, withPartial, openWhileAny}
+use Rattle.engine.specs.Closings.{OpenClosed, ClosedWhere}
 use Rattle.engine.specs.Answers.{places, answeredPlaces, answersIn, answerFrom, InOrder}
-use Rattle.engine.specs.Machine.{Machine, machine, Lists, StateIs, Represents}
+use Rattle.engine.specs.Machine.{Machine, machine, ListIs, StateIs, Represents}
 use Rattle.engine.specs.Contracts.{Ensures, written, ReadingEnsures, zeroedTables, StartEnsures}
 use Rattle.engine.proofs.Refinement.{read-is}
 use Rattle.engine.proofs.Registration.{registered-is, withdrawn-is, fresh-is}
@@ -54,7 +56,7 @@ passes c m long w same j e =
 accepted-call : (c : Call) (m : Machine) (ns : List ℕ) (given : List Answer) (m′ : Machine)
     → Passes c m
     → OfReading IsReading c → TablesKept (m .tables) (m′ .tables)
-    → ((s : model.State) → Represents s m → Lists ((acceptedStep s c) .state) (m′ .queries))
+    → ((s : model.State) → Represents s m → ListIs ((acceptedStep s c) .state) (m′ .queries))
     → ((s : model.State) → Represents s m → StateIs ((acceptedStep s c) .state) (m′ .state) (m′ .tables))
     → ((s : model.State) → Represents s m → accepted ns given ≡ (acceptedStep s c) .outcome)
     → Ensures c m (accepted ns given) m′
@@ -67,7 +69,7 @@ accepted-call c m ns given m′ passes small kept lists state outcome =
         reached = step-invariant s c (rep .reached);
         readings = step-readings IsReading s c small (rep .readings);
         long = kept-long (m .tables) (m′ .tables) kept (passes .long);
-        queries = subst (λ (x : Stepped). Lists (x .state) (m′ .queries)) (sym (step-accepted s rep)) (lists s rep);
+        queries = subst (λ (x : Stepped). ListIs (x .state) (m′ .queries)) (sym (step-accepted s rep)) (lists s rep);
         state = subst (λ (x : Stepped). StateIs (x .state) (m′ .state) (m′ .tables)) (sym (step-accepted s rep)) (state s rep);
       };
       unchanged = λ k j. accepted-refused ns given k j;

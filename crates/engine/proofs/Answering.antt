@@ -28,7 +28,7 @@ use Rattle.deque.specs.Extremes.{entriesOf}
 use Rattle.deque.specs.Sums.{partialsOf}
 use Rattle.deque.proofs.Bridge.{retained-sorted, retained-evicted, standing-retained-sorted, standing-retained-evicted, window-extreme, window-sum}
 use Rattle.engine.specs.declared.state.State.{State}
-use Rattle.engine.specs.States.{Tables}
+use Rattle.engine.specs.Tables.{Tables}
 use Rattle.engine.specs.Answers.{answerWith, InOrder, valueFrom, answerFrom}
 use Rattle.engine.specs.Machine.{StandsOn, Holds, StateIs}
 

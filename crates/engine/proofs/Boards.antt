@@ -12,7 +12,7 @@ use lib.ListN.{length, getD, drop, set, replicate, length-replicate}
 use lib.Seq.{drop-cons, set-at}
 use Rattle.window.proofs.Lists.{and-left, and-right}
 use Rattle.deque.specs.Rings.{capacity}
-use Rattle.engine.specs.States.{Tables, tables, enough, longEnough}
+use Rattle.engine.specs.Tables.{Tables, tables, enough, longEnough}
 
 -- ---- check 1
 

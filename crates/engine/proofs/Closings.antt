@@ -20,7 +20,9 @@ use Rattle.engine.specs.declared.partial.Aggregate.{Aggregate}
 use Rattle.engine.specs.declared.partial.Open.{Open}
 use Rattle.engine.specs.declared.partial.Open.the-variants.{Nothing, Empty, Holding}
 use Rattle.engine.specs.declared.state.State.{State}
-use Rattle.engine.specs.States.{Tables, totalLimit, DequeClosed, Closed, OpenClosed, ClosedWhere}
+use Rattle.engine.specs.Tables.{Tables}
+use Rattle.engine.specs.States.{totalLimit}
+use Rattle.engine.specs.Closings.{DequeClosed, Closed, OpenClosed, ClosedWhere}
 
 -- a total with the comparisons of one closing more
 pub total-fits : (total : ℕ) → total ≤ totalLimit countLimit → total + capacity < 2 ^ 64

@@ -8,13 +8,14 @@ use lib.ListN.{length}
 use Rattle.engine.specs.declared.partial.Open.{Open}
 use Rattle.engine.specs.declared.partial.Open.the-variants.{Nothing, Empty, Holding}
 use Rattle.engine.specs.declared.state.State.{State}
-use Rattle.engine.specs.States.{Tables, longEnough, Kept, TablesKept, OpenClosed, ClosedWhere}
+use Rattle.engine.specs.Tables.{Tables, longEnough, Kept, TablesKept}
+use Rattle.engine.specs.Closings.{OpenClosed, ClosedWhere}
 
 -- ---- tables that are kept
 
 -- what does not change is kept
 kept-same : {A : Type 0} (t : List A) → Kept t t
-kept-same t = record { length = refl; beyond = refl }
+kept-same t = record { asLong = refl; beyond = refl }
 
 pub tables-same : (t : Tables) → TablesKept t t
 tables-same t =
@@ -30,7 +31,7 @@ tables-same t =
 -- tables that are kept are as long as they were
 pub kept-long : (t t′ : Tables) → TablesKept t t′ → longEnough t ≡ true → longEnough t′ ≡ true
 kept-long t t′ k e =
-    rw (k .starts .length, k .sums .length, k .maxStarts .length, k .maxValues .length, k .minStarts .length, k .minValues .length) e
+    rw (k .starts .asLong, k .sums .asLong, k .maxStarts .asLong, k .maxValues .asLong, k .minStarts .asLong, k .minValues .asLong) e
 
 -- a closing keeps the tables
 pub open-closed-kept : (o : Open) (h : ℕ) (st : State) (t : Tables) (st′ : State) (t′ : Tables) → OpenClosed o h st t st′ t′ → TablesKept t t′

@@ -18,7 +18,7 @@ use Rattle.window.specs.Calls.{Answer}
 use Rattle.deque.specs.Extremes.{entriesOf}
 use Rattle.deque.specs.Sums.{partialsOf}
 use Rattle.engine.specs.declared.state.State.{State}
-use Rattle.engine.specs.States.{Tables}
+use Rattle.engine.specs.Tables.{Tables}
 use Rattle.engine.specs.Answers.{answerWith, placesOf, places, putAt, answeredPlaces, valueFrom, answerFrom, InOrder}
 
 -- ---- the places of an answer

@@ -32,7 +32,9 @@ use Rattle.engine.specs.declared.partial.Open.{Open}
 use Rattle.engine.specs.declared.partial.Open.the-variants.{Nothing, Empty, Holding}
 use Rattle.engine.specs.declared.state.State.{State}
 use Rattle.engine.specs.Open.{openWith}
-use Rattle.engine.specs.States.{Tables, withReading, DequeClosed, Closed, OpenClosed, ClosedWhere}
+use Rattle.engine.specs.Tables.{Tables}
+use Rattle.engine.specs.States.{withReading}
+use Rattle.engine.specs.Closings.{DequeClosed, Closed, OpenClosed, ClosedWhere}
 use Rattle.engine.specs.Machine.{HoldingIs, OpenIs, StandsOn, Holds, StateIs}
 
 -- ---- a closing

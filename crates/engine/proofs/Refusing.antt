@@ -20,7 +20,8 @@ use Rattle.engine.specs.declared.calls.Answered.{Answered}
 use Rattle.engine.specs.declared.calls.ReadingReply.{ReadingReply}
 use Rattle.engine.specs.declared.calls.Reply.{Reply}
 use Rattle.engine.specs.declared.state.State.{State}
-use Rattle.engine.specs.States.{longEnough, Judged, isShort, isDamaged, isJudged}
+use Rattle.engine.specs.Tables.{longEnough}
+use Rattle.engine.specs.States.{Judged, isShort, isDamaged, isJudged}
 use Rattle.engine.specs.Answers.{places}
 use Rattle.engine.specs.Machine.{Machine, machine, Represents}
 use Rattle.engine.specs.Outcomes.{verdictOutcome, readingOutcome}

@@ -23,7 +23,9 @@ use Rattle.deque.proofs.Bridge.{retained-none, retained-rises}
 use Rattle.engine.specs.declared.partial.Open.{Open}
 use Rattle.engine.specs.declared.partial.Open.the-variants.{Nothing, Empty, Holding}
 use Rattle.engine.specs.declared.state.State.{State}
-use Rattle.engine.specs.States.{Tables, FreshState, withPartial, openWhileAny, OpenClosed}
+use Rattle.engine.specs.Tables.{Tables}
+use Rattle.engine.specs.States.{FreshState, withPartial, openWhileAny}
+use Rattle.engine.specs.Closings.{OpenClosed}
 use Rattle.engine.specs.Machine.{OpenIs, Holds, StateIs}
 use Rattle.engine.proofs.Refinement.{open-start, open-closed-is}
 

@@ -32,8 +32,10 @@ use Rattle.engine.specs.declared.partial.Open.{Open}
 use Rattle.engine.specs.declared.partial.Open.the-variants.{Nothing, Empty, Holding}
 use Rattle.engine.specs.declared.state.State.{State}
 use Rattle.engine.specs.Open.{readingSize, sizeLimit, openWith, FitsAggregate, FitsOpen}
-use Rattle.engine.specs.States.{Tables, Sound, Intact, withReading, Ready}
-use Rattle.engine.specs.Machine.{Machine, OpenIs, Holds, Lists, StateIs, Represents}
+use Rattle.engine.specs.Tables.{Tables}
+use Rattle.engine.specs.States.{Sound, Intact, withReading}
+use Rattle.engine.specs.Closings.{Ready}
+use Rattle.engine.specs.Machine.{Machine, OpenIs, Holds, ListIs, StateIs, Represents}
 use Rattle.engine.proofs.Aggregates.{holding-small}
 use Rattle.engine.proofs.Refinement.{open-start}
 
@@ -125,7 +127,7 @@ module _ (s : model.State) (v : Invariant s) (readings : Each IsReading (s .read
       }
 
   -- queries that are the model's are not damaged
-  pub list-intact : (n : ℕ) (l : Queries) → n ≡ count s → Lists s l → damaged n (l .count) (used l) ≡ false
+  pub list-intact : (n : ℕ) (l : Queries) → n ≡ count s → ListIs s l → damaged n (l .count) (used l) ≡ false
   list-intact n l e k =
       ap (λ (m : ℕ). damaged m (l .count) (used l)) e
       ∙ ap (λ (c : ℕ). damaged (count s) c (used l)) (k .count)

@@ -18,7 +18,9 @@ use Rattle.deque.specs.Sums.{FitsSums}
 use Rattle.engine.specs.declared.partial.Open.{Open}
 use Rattle.engine.specs.declared.partial.Open.the-variants.{Nothing, Empty, Holding}
 use Rattle.engine.specs.declared.state.State.{State}
-use Rattle.engine.specs.States.{Tables, Sound, Ready, withReading, OpenClosed, ClosedWhere}
+use Rattle.engine.specs.Tables.{Tables}
+use Rattle.engine.specs.States.{Sound, withReading}
+use Rattle.engine.specs.Closings.{Ready, OpenClosed, ClosedWhere}
 use Rattle.engine.proofs.Soundness.{sound-taken}
 
 -- ---- the state with the reading

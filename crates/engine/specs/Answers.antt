@@ -17,7 +17,7 @@ use Rattle.window.specs.Invariant.{Sorted}
 use Rattle.deque.specs.Extremes.{entriesOf}
 use Rattle.deque.specs.Sums.{partialsOf, InBounds}
 use Rattle.engine.specs.declared.state.State.{State}
-use Rattle.engine.specs.States.{Tables}
+use Rattle.engine.specs.Tables.{Tables}
 
 -- ---- the places of answers
 

@@ -14,9 +14,9 @@ use Rattle.window.specs.Calls.{Call, start, register, withdraw, reading, totals
 use Rattle.window.specs.Model as model
 use Rattle.window.specs.Model.{initial, step}
 use Rattle.registry.specs.Records.{used}
-use Rattle.engine.specs.States.{Tables, tables, longEnough, zeroed, TablesKept}
+use Rattle.engine.specs.Tables.{Tables, tables, longEnough, zeroed, TablesKept}
 use Rattle.engine.specs.Answers.{answeredPlaces}
-use Rattle.engine.specs.Machine.{Machine, machine, Represents}
+use Rattle.engine.specs.Machine.{Machine, Represents}
 
 -- ---- refusals
 

@@ -8,10 +8,9 @@ use mathlib.Core.List.{List, [], _∷_}
 use lib.IntN.{ℤ}
 use lib.ListN.{length}
 use Rattle.window.specs.Calls.{Call, start, register, withdraw, reading, totals, Outcome, refused}
-use Rattle.window.specs.Model as model
 use Rattle.window.specs.Model.{count, initial, Ran, run, reached}
 use Rattle.registry.specs.Records.{used, Tidy}
-use Rattle.engine.specs.States.{longEnough}
+use Rattle.engine.specs.Tables.{longEnough}
 use Rattle.engine.specs.Machine.{Machine, Represents}
 use Rattle.engine.specs.Contracts.{Ensures, ReadingEnsures, StartEnsures}
 

@@ -1,5 +1,7 @@
 pub mod Open
+pub mod Tables
 pub mod States
+pub mod Closings
 pub mod Answers
 pub mod Machine
 pub mod Outcomes

@@ -23,12 +23,12 @@ use Rattle.deque.specs.Extremes.{entriesOf}
 use Rattle.deque.specs.Sums.{partialsOf, FitsSums, InBounds}
 use Rattle.deque.specs.Retained.{Retained}
 use Rattle.registry.specs.declared.queries.Queries.{Queries}
-use Rattle.registry.specs.Records.{recordLimit, used, Tidy}
+use Rattle.registry.specs.Records.{used, Tidy}
 use Rattle.engine.specs.declared.partial.Aggregate.{Aggregate}
 use Rattle.engine.specs.declared.partial.Open.{Open}
 use Rattle.engine.specs.declared.partial.Open.the-variants.{Nothing, Empty, Holding}
 use Rattle.engine.specs.declared.state.State.{State}
-use Rattle.engine.specs.States.{Tables, longEnough}
+use Rattle.engine.specs.Tables.{Tables, longEnough}
 
 -- state, query list and tables
 pub record Machine : Type 0 where
@@ -76,7 +76,7 @@ pub record Holds (s : model.State) (st : State) (t : Tables) : Type 0 where
 -- ---- the query list
 
 -- the used records are the model's queries, and the unused ones are 0
-pub record Lists (s : model.State) (l : Queries) : Type 0 where
+pub record ListIs (s : model.State) (l : Queries) : Type 0 where
   pub count : l .count ≡ length (s .queries)
   pub used : used l ≡ s .queries
   pub tidy : Tidy l
@@ -97,5 +97,5 @@ pub record Represents (s : model.State) (m : Machine) : Type 0 where
   pub reached : Invariant s
   pub readings : Each IsReading (s .readings)
   pub long : longEnough (m .tables) ≡ true
-  pub queries : Lists s (m .queries)
+  pub queries : ListIs s (m .queries)
   pub state : StateIs s (m .state) (m .tables)

@@ -1,6 +1,5 @@
 -- Document 01's numbers and values for what the calls return.
 -- Assumes nothing.
-use Prim.Native.Nat.{ℕ}
 use mathlib.Core.List.{List, [], _∷_}
 use lib.IntN.{ℤ}
 use Rattle.window.specs.declared.refusal.Verdict.{Verdict}

@@ -17,7 +17,7 @@ ghost use Rattle.window.specs.Calls.{Answer};
 ghost use Rattle.deque.specs.Rings.{Fits};
 ghost use Rattle.deque.specs.Sums.{FitsSums};
 ghost use Rattle.registry.specs.Records.{recordLimit, used};
-ghost use Rattle.engine.specs.States.{tables, longEnough};
+ghost use Rattle.engine.specs.Tables.{tables, longEnough};
 ghost use Rattle.engine.specs.Answers.{answerWith, putAt, answeredPlaces, valueFrom, answerFrom, InOrder};
 
 // One answer is written: query number, kind, count of readings in the window, value.

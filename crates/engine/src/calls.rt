@@ -16,7 +16,7 @@ use window::refusal::Refusal;
 use window::refusal::Verdict;
 ghost use mathlib.Core.Path.{_≡_};
 ghost use Rattle.window.specs.Calls.{start, register, withdraw, reading, totals};
-ghost use Rattle.engine.specs.States.{tables};
+ghost use Rattle.engine.specs.Tables.{tables};
 ghost use Rattle.engine.specs.Machine.{machine};
 ghost use Rattle.engine.specs.Outcomes.{verdictOutcome, readingOutcome, totalsOutcome};
 ghost use Rattle.engine.specs.Contracts.{StartEnsures, Ensures, ReadingEnsures};
@@ -136,15 +136,14 @@ pub fn register(
         min_starts.len(),
         min_values.len(),
     );
-    if let Verdict::Refused(refusal) = judge_register(
-        long,
-        state,
-        queries,
+    let q = Query {
         number,
         kind,
         range,
         slide,
-    ) {
+        origin: state.count,
+    };
+    if let Verdict::Refused(refusal) = judge_register(long, state, queries, q) {
         return refused(state, queries, refusal);
     }
     let closed = state.close_open(
@@ -156,13 +155,6 @@ pub fn register(
         min_starts,
         min_values,
     );
-    let q = Query {
-        number,
-        kind,
-        range,
-        slide,
-        origin: state.count,
-    };
     let after = closed.with_partial(Open::Empty);
     let joined = queries.joined_by(q);
     Reply {

@@ -1,6 +1,7 @@
 // The checks of a call on entry: 1, 2, and then its own (document 01, "The calls and where each refuses").
 use crate::state::State;
 use registry::queries::Queries;
+use window::query::Query;
 use window::refusal::Refusal;
 use window::refusal::Verdict;
 ghost use mathlib.Core.Path.{_≡_};
@@ -32,22 +33,14 @@ pub(crate) fn judge(long: bool, state: State, queries: Queries) -> Verdict
     Verdict::Passed
 }
 
-// Checks 1, 2 and 3 to 8.
-pub(crate) fn judge_register(
-    long: bool,
-    state: State,
-    queries: Queries,
-    number: u32,
-    kind: u32,
-    range: u32,
-    slide: u32,
-) -> Verdict
-    ensures { λ r. ⌜ Judged long state queries (firstRefusal (registerChecks (used queries) number kind range slide)) r ⌝ }
+// Checks 1, 2 and 3 to 8, for the query that is to join.
+pub(crate) fn judge_register(long: bool, state: State, queries: Queries, q: Query) -> Verdict
+    ensures { λ r. ⌜ Judged long state queries (firstRefusal (registerChecks (used queries) (q .number) (q .kind) (q .range) (q .slide))) r ⌝ }
 {
     if let Verdict::Refused(refusal) = judge(long, state, queries) {
         return Verdict::Refused(refusal);
     }
-    queries.check_register(number, kind, range, slide)
+    queries.check_register(q.number, q.kind, q.range, q.slide)
 }
 
 // Checks 1, 2 and 9.

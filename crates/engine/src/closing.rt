@@ -13,7 +13,8 @@ ghost use lib.ListN.{length};
 ghost use Rattle.window.specs.Lists.{any, Each};
 ghost use Rattle.window.specs.Queries.{Limits, edge, horizon};
 ghost use Rattle.registry.specs.Records.{recordLimit, used};
-ghost use Rattle.engine.specs.States.{Ready, tables, longEnough, Closed, OpenClosed, ClosedWhere};
+ghost use Rattle.engine.specs.Tables.{tables, longEnough};
+ghost use Rattle.engine.specs.Closings.{Ready, Closed, OpenClosed, ClosedWhere};
 
 impl State {
     // The open partial a closes at the horizon, and an empty one is open.

@@ -9,7 +9,7 @@ ghost use lib.Dec.{leb};
 ghost use lib.IntN.{pos};
 ghost use lib.ListN.{length, replicate, drop};
 ghost use Rattle.deque.specs.Rings.{capacity};
-ghost use Rattle.engine.specs.States.{enough, zeroed};
+ghost use Rattle.engine.specs.Tables.{enough, zeroed};
 
 // Whether a table of this length can be used, and so can the rest.
 fn also_long(len: usize, rest: bool) -> bool

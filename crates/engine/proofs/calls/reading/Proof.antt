@@ -14,7 +14,9 @@ use Rattle.window.proofs.Refusals.{Counts, reading-passed}
 use Rattle.registry.specs.Records.{recordLimit, used}
 use Rattle.registry.proofs.Judged.{intact-few, intact-limits, intact-origins}
 use Rattle.engine.specs.Machine.{Machine, machine}
-use Rattle.engine.specs.States.{tables, Ready, withReading}
+use Rattle.engine.specs.Tables.{tables}
+use Rattle.engine.specs.States.{withReading}
+use Rattle.engine.specs.Closings.{Ready}
 use Rattle.engine.proofs.Taking.{taken-ready, taken-count, taken-origins, taken-closed, Left, closed-left, due-fit}
 use Rattle.engine.proofs.Accepting.{Passes, passes, accepted-reading}
 use Rattle.engine.proofs.Keeping.{closed-long}

@@ -4,7 +4,7 @@ use mathlib.Core.Path.{_≡_, sym, _∙_}
 use mathlib.Core.Bool.{true}
 use borrow.Author.Tests.{not-true, not-false}
 use borrow.Author.Needs.{needs}
-use Rattle.engine.specs.States.{Tables, tables, longEnough}
+use Rattle.engine.specs.Tables.{Tables, tables, longEnough}
 use Rattle.engine.specs.Machine.{Machine, machine}
 use Rattle.engine.proofs.Boards.{Long, long-each, tables-are}
 use Rattle.engine.proofs.Accepting.{accepted-start}

@@ -8,7 +8,7 @@ use Rattle.registry.specs.Records.{used}
 use Rattle.registry.proofs.Judged.{intact-few, used-count}
 use Rattle.registry.proofs.Scans.{mapped-length}
 use Rattle.engine.specs.Machine.{Machine, machine}
-use Rattle.engine.specs.States.{tables}
+use Rattle.engine.specs.Tables.{tables}
 use Rattle.engine.proofs.Accepting.{Passes, passes, accepted-withdraw}
 use Rattle.engine.proofs.Refusing.{refused-reply}
 use Rattle.engine.proofs.calls.withdraw.Statement.{statement}

@@ -31,7 +31,7 @@ check-register-requires c κs =
 returns-2 : tie.Need-returns-2
 returns-2 c =
     let a = c .before .before .before .before .args in
-    judged-last (a .long) (a .state) (a .queries) (firstRefusal (registerChecks (used (a .queries)) (a .number) (a .kind) (a .range) (a .slide))) _ _ (c .before .before .before .judge .ensures) (c .before .enum-told .given .1) (c .check-register .ensures)
+    judged-last (a .long) (a .state) (a .queries) (firstRefusal (registerChecks (used (a .queries)) (a .q .number) (a .q .kind) (a .q .range) (a .q .slide))) _ _ (c .before .before .before .judge .ensures) (c .before .enum-told .given .1) (c .check-register .ensures)
 
 pub judge-register-spec : {M : Type 1} → statement M
 judge-register-spec = tie.close (tie.spec judge-requires enum-known-refusal returns enum-told check-register-requires returns-2)

@@ -1,5 +1,5 @@
 use borrow.Author.Needs.{needs}
-use Rattle.engine.specs.States.{enough}
+use Rattle.engine.specs.Tables.{enough}
 use Rattle.engine.proofs.tables.enough.Statement.{statement}
 use Rattle.engine.proofs.tables.enough.Tie as tie
 

@@ -15,7 +15,7 @@ use Rattle.window.specs.Queries.{Limits, due}
 use Rattle.window.specs.Refusals.{dueAt}
 use Rattle.registry.specs.Records.{recordLimit, unused, used}
 use Rattle.registry.proofs.Scans.{mapped-length, each-at, filter-passed, filter-failed, filter-ended}
-use Rattle.engine.specs.States.{Tables, tables}
+use Rattle.engine.specs.Tables.{Tables, tables}
 use Rattle.engine.proofs.Places.{AnsweredTo, answered-none, answered-kept, answered-room, answered-next, answered-all}
 use Rattle.engine.proofs.state.State.answer_due.Statement.{statement}
 use Rattle.engine.proofs.state.State.answer_due.Tie as tie

@@ -6,7 +6,7 @@ use Rattle.ints.specs.Sizes.{Small}
 use Rattle.window.specs.Queries.{countLimit}
 use Rattle.window.specs.Standing.{evicted}
 use Rattle.deque.specs.Sums.{partialsOf, sumLimit}
-use Rattle.engine.specs.States.{Tables, tables}
+use Rattle.engine.specs.Tables.{Tables, tables}
 use Rattle.engine.proofs.Boards.{Long, long-each}
 use Rattle.engine.proofs.Closings.{total-fits, closed-fits, sum-is, sums-closed, deque-closed}
 use Rattle.engine.proofs.state.State.close.Statement.{statement}
@@ -117,12 +117,12 @@ returns c =
       maxima = deque-closed (toZ-ofZ {w = w32} {z = a .maximum} (record { sfits = maximaOf c .before .struct-told2 .given .1 .1 .0 .1 })) (record { fits = x .ensures .0; entries = x .ensures .1 .0; cost = x .ensures .1 .1 .0 });
       minima = deque-closed (toZ-ofZ {w = w32} {z = a .minimum} (record { sfits = minimaOf c .before .struct-told3 .given .1 .1 .1 .0 .1 })) (record { fits = n .ensures .0; entries = n .ensures .1 .0; cost = n .ensures .1 .1 .0 });
       kept = record {
-        starts = record { length = p .kept .1 .0; beyond = p .ensures .1 .1 .1 .0 };
-        sums = record { length = p .kept .1 .1 .0; beyond = p .ensures .1 .1 .1 .1 };
-        maxStarts = record { length = x .kept .1 .1 .0; beyond = x .ensures .1 .1 .1 .0 };
-        maxValues = record { length = x .kept .1 .1 .1 .0; beyond = x .ensures .1 .1 .1 .1 };
-        minStarts = record { length = n .kept .1 .1 .0; beyond = n .ensures .1 .1 .1 .0 };
-        minValues = record { length = n .kept .1 .1 .1 .0; beyond = n .ensures .1 .1 .1 .1 };
+        starts = record { asLong = p .kept .1 .0; beyond = p .ensures .1 .1 .1 .0 };
+        sums = record { asLong = p .kept .1 .1 .0; beyond = p .ensures .1 .1 .1 .1 };
+        maxStarts = record { asLong = x .kept .1 .1 .0; beyond = x .ensures .1 .1 .1 .0 };
+        maxValues = record { asLong = x .kept .1 .1 .1 .0; beyond = x .ensures .1 .1 .1 .1 };
+        minStarts = record { asLong = n .kept .1 .1 .0; beyond = n .ensures .1 .1 .1 .0 };
+        minValues = record { asLong = n .kept .1 .1 .1 .0; beyond = n .ensures .1 .1 .1 .1 };
       };
     }
 

@@ -5,7 +5,7 @@ use lib.IntN.{pos}
 use mir.Syntax.{w64}
 use mir.Facts.{toZ-ofZ}
 use Rattle.ints.proofs.Sizes.{most-is}
-use Rattle.engine.specs.States.{Tables, tables}
+use Rattle.engine.specs.Tables.{Tables, tables}
 use Rattle.engine.proofs.Widened.{wide-fits, wide-is}
 use Rattle.engine.proofs.Boards.{Long, long-each}
 use Rattle.engine.proofs.Places.{value-sum, value-count, value-maximum, value-minimum}

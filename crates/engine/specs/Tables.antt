@@ -1,0 +1,51 @@
+-- The lent tables (document 01: the board).
+-- Assumes nothing.
+use Prim.Native.Nat.{ℕ, _+_}
+use mathlib.Core.Path.{_≡_}
+use mathlib.Core.Bool.{Bool, _&&_}
+use mathlib.Core.List.{List, _++_}
+use lib.Dec.{leb}
+use lib.IntN.{ℤ}
+use lib.ListN.{length, replicate, drop}
+use Rattle.deque.specs.Rings.{capacity, BeyondKept}
+
+pub record Tables : Type 0 where
+  -- starts and sums of partials
+  pub starts : List ℕ
+  pub sums : List ℤ
+  -- starts and values for maxima, and for minima
+  pub maxStarts : List ℕ
+  pub maxValues : List ℤ
+  pub minStarts : List ℕ
+  pub minValues : List ℤ
+
+-- the tables, in this order
+abbrev pub tables : List ℕ → List ℤ → List ℕ → List ℤ → List ℕ → List ℤ → Tables
+tables a b c d e f = record { starts = a; sums = b; maxStarts = c; maxValues = d; minStarts = e; minValues = f }
+
+-- check 1, by the lengths of the six tables: each has 4,096 places or more
+unfoldable pub enough : (a b c d e f : ℕ) → Bool
+enough a b c d e f =
+    leb capacity a && (leb capacity b && (leb capacity c && (leb capacity d && (leb capacity e && leb capacity f))))
+
+abbrev pub longEnough : Tables → Bool
+longEnough t =
+    enough (length (t .starts)) (length (t .sums)) (length (t .maxStarts)) (length (t .maxValues)) (length (t .minStarts)) (length (t .minValues))
+
+-- a table with its first 4,096 places 0
+abbrev pub zeroed : {A : Type 0} → A → List A → List A
+zeroed nought t = replicate capacity nought ++ drop capacity t
+
+-- a table is as long as it was, and beyond its first 4,096 places it is as it was
+pub record Kept {A : Type 0} (before after : List A) : Type 0 where
+  pub asLong : length after ≡ length before
+  pub beyond : BeyondKept before after
+
+-- each of the six is
+pub record TablesKept (before after : Tables) : Type 0 where
+  pub starts : Kept (before .starts) (after .starts)
+  pub sums : Kept (before .sums) (after .sums)
+  pub maxStarts : Kept (before .maxStarts) (after .maxStarts)
+  pub maxValues : Kept (before .maxValues) (after .maxValues)
+  pub minStarts : Kept (before .minStarts) (after .minStarts)
+  pub minValues : Kept (before .minValues) (after .minValues)
