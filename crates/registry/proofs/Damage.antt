@@ -7,9 +7,9 @@ use Prim.Native.Nat.{ℕ, zero, suc, _+_, _≤_, _<_}
 use native.Mathlib.Numerals.{add-one}
 use native.Mathlib.Omega.{arith}
 use lib.Dec.{ltb, eqb}
-use lib.ListN.{length, getD, take, set, length-map, List·getD-map}
+use lib.ListN.{length, getD, take, drop, set, length-map, List·getD-map}
 use lib.Seq.{take-all, take-suc, take-suc-set}
-use borrow.Author.Tests.{lt-ltb, le-ltb}
+use borrow.Author.Tests.{lt-ltb, le-ltb, ltb-true, ltb-false}
 use Rattle.window.specs.declared.query.Query.{Query}
 use Rattle.window.specs.declared.refusal.Refusal.{Refusal}
 use Rattle.window.specs.declared.refusal.Verdict.{Verdict}
@@ -18,6 +18,7 @@ use Rattle.window.specs.Lists.{any}
 use Rattle.window.specs.Queries.{queryLimit}
 use Rattle.window.specs.Refusals.{firstRefusal, isRegistered, fieldChecks, brokenRecord, sharedNumber, damaged}
 use Rattle.window.proofs.Refusals.{passed-any, refused-any}
+use Rattle.registry.proofs.Scans.{rest-cons, rest-ended}
 use Rattle.registry.specs.Records.{unused, numbersOf, occurs, repeats}
 
 module _ (n : ℕ) (q : Query) (v : Verdict) (e : v ≡ firstRefusal (fieldChecks (q .number) (q .kind) (q .range) (q .slide))) where
@@ -40,6 +41,17 @@ occurs-registered k (q ∷ qs) = ap (λ (b : Bool). eqb k (q .number) || b) (occ
 repeats-shared : (qs : List Query) → repeats (numbersOf qs) ≡ sharedNumber qs
 repeats-shared [] = refl
 repeats-shared (q ∷ qs) = ap₂ _||_ (occurs-registered (q .number) qs) (repeats-shared qs)
+
+-- from place i on: the number at i stands again after it, or one after it does; from the end on there is none
+pub repeats-rest : (ks : List ℕ) (c i : ℕ) → c ≤ length ks
+    → repeats (drop i (take c ks)) ≡ (occurs (getD ks i 0) (drop (i + 1) (take c ks)) || repeats (drop (i + 1) (take c ks)))
+repeats-rest ks c i w = go (ltb i c) refl
+  where
+    go : (b : Bool) → ltb i c ≡ b → repeats (drop i (take c ks)) ≡ (occurs (getD ks i 0) (drop (i + 1) (take c ks)) || repeats (drop (i + 1) (take c ks)))
+    go true e = ap repeats (rest-cons ks c i 0 (ltb-true i c e) w)
+    go false e =
+        let l : c ≤ i = ltb-false i c e in
+        rw (rest-ended ks c i l, rest-ended ks c (i + 1) (omega arith))
 
 -- the first c numbers are those of the first c records
 take-numbers : (c : ℕ) (qs : List Query) → take c (numbersOf qs) ≡ numbersOf (take c qs)

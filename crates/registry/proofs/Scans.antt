@@ -2,13 +2,15 @@
 -- after it, and so for each test, count and least start that is taken over them.
 -- Assumes nothing.
 use mathlib.Core.Path.{_≡_, refl, sym, ap, _∙_, subst}
-use mathlib.Core.Bool.{Bool, true, false, _||_}
+use mathlib.Core.Bool.{Bool, true, false, _&&_, _||_}
 use mathlib.Core.List.{List, [], _∷_, map}
-use Prim.Native.Nat.{ℕ, _+_, _≤_, _<_, min}
+use Prim.Native.Nat.{ℕ, _+_, _≤_, _<_, min, max}
 use native.Mathlib.Numerals.{add-one}
 use native.Mathlib.Omega.{arith}
+use lib.Dec.{ltb}
 use lib.ListN.{length, getD, take, drop, length-take, length-map, drop-of-length-le}
 use lib.Seq.{drop-cons, getD-take}
+use borrow.Author.Tests.{ltb-true, ltb-false}
 use Rattle.window.specs.declared.query.Query.{Query}
 use Rattle.window.specs.Lists.{filter, any, Each}
 use Rattle.window.specs.Queries.{windowStart, horizon}
@@ -80,6 +82,45 @@ found-next false now rest whole next e f = cc
 pub found-last : (found whole : Bool) → whole ≡ false → (found || whole) ≡ found
 found-last true whole e = refl
 found-last false whole e = e
+
+-- ---- a scan of every place, of which those after i and before c count
+
+module _ {A : Type 0} (p : A → Bool) (xs : List A) (c i : ℕ) where
+  -- before the first place, those after i are left
+  pub masked-first : any p (drop (max (i + 1) 0) (take c xs)) ≡ any p (drop (i + 1) (take c xs))
+  masked-first = let e : max (i + 1) 0 ≡ i + 1 = omega arith in rw e
+
+  -- one place on
+  pub masked-next : (d : A) (found next : Bool) (j : ℕ) → c ≤ length xs → next ≡ (found || ((ltb i j && ltb j c) && p (getD xs j d)))
+      → (found || any p (drop (max (i + 1) j) (take c xs))) ≡ (next || any p (drop (max (i + 1) (j + 1)) (take c xs)))
+  masked-next d found next j w e = go (ltb i j) refl (ltb j c) refl
+    where
+      left : ℕ → Bool
+      left k = any p (drop k (take c xs))
+
+      -- where the place does not count, what was found is as before
+      skipped : (k m : ℕ) → left k ≡ left m → next ≡ (found || false) → (found || left k) ≡ (next || left m)
+      skipped k m same f = found-next found false (left m) (left k) next same f
+
+      go : (a : Bool) → ltb i j ≡ a → (b : Bool) → ltb j c ≡ b → (found || left (max (i + 1) j)) ≡ (next || left (max (i + 1) (j + 1)))
+      go false f b g =
+          let l : j ≤ i = ltb-false i j f in
+          let same : max (i + 1) j ≡ max (i + 1) (j + 1) = omega arith in
+          skipped (max (i + 1) j) (max (i + 1) (j + 1)) (ap left same) (e ∙ rw f)
+      go true f false g =
+          let l : i < j = ltb-true i j f in
+          let m : c ≤ j = ltb-false j c g in
+          skipped (max (i + 1) j) (max (i + 1) (j + 1)) (any-ended p xs c (max (i + 1) j) (omega arith) ∙ sym (any-ended p xs c (max (i + 1) (j + 1)) (omega arith))) (e ∙ rw (f, g))
+      go true f true g =
+          let l : i < j = ltb-true i j f in
+          let m : j < c = ltb-true j c g in
+          let here : max (i + 1) j ≡ j = omega arith in
+          let there : max (i + 1) (j + 1) ≡ j + 1 = omega arith in
+          rw (here, there) (found-next found (p (getD xs j d)) (left (j + 1)) (left j) next (any-cons xs c j d m w p) (e ∙ rw (f, g)))
+
+  -- behind the last place nothing is left
+  pub masked-last : (j : ℕ) → c ≤ j → any p (drop (max (i + 1) j) (take c xs)) ≡ false
+  masked-last j l = any-ended p xs c (max (i + 1) j) (omega arith)
 
 -- ---- counts
 

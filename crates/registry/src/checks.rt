@@ -7,8 +7,9 @@ use window::refusal::Refusal;
 use window::refusal::Verdict;
 use window::refusal::check_fields;
 ghost use mathlib.Core.Path.{_≡_};
-ghost use mathlib.Core.Bool.{_||_};
+ghost use mathlib.Core.Bool.{_&&_, _||_};
 ghost use Prim.Native.Nat.{_+_, _*_, _<_, _≤_, _^_};
+ghost use lib.Dec.{ltb};
 ghost use lib.ListN.{length, take, drop};
 ghost use Rattle.window.specs.Lists.{any, Each};
 ghost use Rattle.window.specs.Queries.{Limits, countLimit};
@@ -20,6 +21,13 @@ pub const COUNT_LIMIT: Count = 4_294_967_295;
 
 // The places of an answer in the answer table.
 pub const ANSWER_PLACES: usize = 4;
+
+// Both of two tests.
+fn both(a: bool, b: bool) -> bool
+    ensures { λ r. ⌜ r ≡ (a && b) ⌝ }
+{
+    if a { b } else { false }
+}
 
 // Either of two tests.
 fn either(a: bool, b: bool) -> bool
@@ -38,15 +46,23 @@ fn broken(q: Query, n: Count) -> bool
     }
 }
 
-// Whether this number stands at one of the places from i to before the end. There is no early exit: the compiler looks at several places at once.
+// What was found before, or that j is a place after i and before the end that holds this number.
+fn found_at(found: bool, i: usize, j: usize, end: usize, same: bool) -> bool
+    ensures { λ r. ⌜ r ≡ (found || ((ltb i j && ltb j end) && same)) ⌝ }
+{
+    let after = both(i < j, j < end);
+    either(found, both(after, same))
+}
+
+// Whether this number stands at a place after i and before the end. Every place is looked at, with no early exit, so that the compiler looks at several at once.
 fn occurs(number: u32, numbers: [u32; 32], i: usize, end: usize) -> bool
     requires { ⌜ end ≤ recordLimit ⌝ }
-    ensures { λ r. ⌜ r ≡ occurs number (drop i (take end numbers)) ⌝ }
+    ensures { λ r. ⌜ r ≡ occurs number (drop (i + 1) (take end numbers)) ⌝ }
 {
     let mut found = false;
-    let mut j = i;
-    while j < end {
-        found = either(found, number == numbers[j]);
+    let mut j = 0;
+    while j < RECORDS {
+        found = found_at(found, i, j, end, number == numbers[j]);
         j += 1;
     }
     found
@@ -59,8 +75,8 @@ fn repeats(numbers: [u32; 32], end: usize) -> bool
 {
     let mut found = false;
     let mut i = 0;
-    while i < end {
-        found = either(found, occurs(numbers[i], numbers, i + 1, end));
+    while i < RECORDS {
+        found = either(found, occurs(numbers[i], numbers, i, end));
         i += 1;
     }
     found

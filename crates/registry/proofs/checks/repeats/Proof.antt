@@ -7,7 +7,8 @@ use native.Mathlib.Omega.{arith}
 use borrow.Author.Needs.{needs}
 use lib.ListN.{length, take, drop}
 use Rattle.registry.specs.Records.{recordLimit, repeats}
-use Rattle.registry.proofs.Scans.{rest-cons, rest-ended, found-next, found-last}
+use Rattle.registry.proofs.Scans.{rest-ended, found-next, found-last}
+use Rattle.registry.proofs.Damage.{repeats-rest}
 use Rattle.registry.proofs.checks.repeats.Statement.{statement}
 use Rattle.registry.proofs.checks.repeats.Tie as tie
 
@@ -15,7 +16,7 @@ abbrev Inv-loop : tie.InvT-loop
 Inv-loop end numbers found₀ i₀ found i = (found || repeats (drop i (take end numbers))) ≡ repeats (take end numbers)
 
 abbrev μ-loop : tie.MeasureT-loop
-μ-loop end numbers found₀ i₀ found i = end - i
+μ-loop end numbers found₀ i₀ found i = recordLimit - i
 
 -- the array has 32 numbers
 whole : (c : tie.Start Inv-loop μ-loop) → length (c .args .t1) ≡ recordLimit
@@ -29,9 +30,6 @@ mul-occurs c = omega arith
 
 array-read-occurs : tie.Need-array-read-occurs Inv-loop μ-loop
 array-read-occurs c = omega arith
-
-add-occurs : tie.Need-add-occurs Inv-loop μ-loop
-add-occurs c = omega arith
 
 occurs-requires : tie.Need-occurs-requires Inv-loop μ-loop
 occurs-requires c κs = omega arith
@@ -49,7 +47,7 @@ loop-again : tie.Need-loop-again Inv-loop μ-loop
 loop-again c =
     let a = c .before .before .before .before .args in
     let l = c .before .before .before .loop in
-    sym (found-next (l .found) _ _ _ _ (ap repeats (rest-cons (a .t1) (a .end) (l .i) 0 (omega arith) (omega (arith, whole (c .before .before .before .before))))) (c .either .ensures ∙ ap (λ b. l .found || b) (c .before .occurs .ensures))) ∙ l .inv
+    sym (found-next (l .found) _ _ _ _ (repeats-rest (a .t1) (a .end) (l .i) (omega (arith, whole (c .before .before .before .before)))) (c .either .ensures ∙ ap (λ b. l .found || b) (c .before .occurs .ensures))) ∙ l .inv
 
 returns : tie.Need-returns Inv-loop μ-loop
 returns c =
@@ -66,7 +64,6 @@ repeats-spec =
     loop-holds
     mul-occurs
     array-read-occurs
-    add-occurs
     occurs-requires
     either-requires
     add-i

@@ -1,0 +1,23 @@
+-- `found_at` meets its contract. Assumes nothing.
+use mathlib.Core.Path.{ap, _∙_}
+use mathlib.Core.Bool.{Bool, _&&_, _||_}
+use borrow.Author.Needs.{needs}
+use Rattle.registry.proofs.checks.found_at.Statement.{statement}
+use Rattle.registry.proofs.checks.found_at.Tie as tie
+
+both-requires : tie.Need-both-requires
+both-requires c κs = search needs
+
+both-requires-2 : tie.Need-both-requires-2
+both-requires-2 c κs = search needs
+
+either-requires : tie.Need-either-requires
+either-requires c κs = search needs
+
+returns : tie.Need-returns
+returns c =
+    let a = c .before .before .before .args in
+    c .either .ensures ∙ ap (λ (b : Bool). a .found || b) (c .before .both2 .ensures ∙ ap (λ (b : Bool). b && a .same) (c .before .before .both .ensures))
+
+pub found-at-spec : {M : Type 1} → statement M
+found-at-spec = tie.close (tie.spec both-requires both-requires-2 either-requires returns)
