@@ -1,5 +1,6 @@
 // The starred cases of document 01, its sample session, and a reading refused for want of answer places, as lists of calls.
 
+// A call of a list, with what it is given.
 pub enum Call {
     Start,
     Register(u32, u32, u32, u32),
@@ -11,9 +12,10 @@ pub enum Call {
     End,
 }
 
-// How many lists there are, and the most calls that one has.
+// How many lists there are.
 pub const CASES: usize = 11;
 
+// A bound on the calls of a list.
 pub const MOST_CALLS: usize = 64;
 
 // The places of an answer table that holds 32 answers.

@@ -34,6 +34,13 @@ pub fn value(x: i32) {
     signed(x as i64);
 }
 
+// A blank and the length of an answer table, in brackets.
+pub fn places(k: usize) {
+    text(b" (");
+    io::print_decimal(1, k as u64);
+    text(b" places)");
+}
+
 // A refusal, by its number.
 pub fn refused(refusal: Refusal) {
     text(b" refused");

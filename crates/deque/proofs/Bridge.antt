@@ -10,40 +10,20 @@ use native.Mathlib.Omega.{arith}
 use lib.IntN.{ℤ, pos}
 use lib.ListN.{length, length-append, length-map}
 use Rattle.window.specs.declared.query.Query.{Query}
-use Rattle.window.specs.Lists.{Each}
 use Rattle.window.specs.Orders.{Order, sum, extreme}
 use Rattle.window.specs.Queries.{windowStart, horizon}
 use Rattle.window.specs.Partials.{Partial, spanning, Entry, entry, entries, live, partialsFrom, entriesFrom, valueOf}
 use Rattle.window.specs.Standing.{standing, comparisons, frontOf, evicted}
-use Rattle.window.specs.Calls.{IsReading}
 use Rattle.window.specs.Model.{State, count, window, standingAt, closingComparisons}
 use Rattle.window.specs.Invariant.{Ordered, Sorted, FromPartials}
 use Rattle.window.proofs.Lists.{filter-append}
-use Rattle.window.proofs.Orders.{leZ-order, geZ-order}
 use Rattle.window.proofs.Standing.{evicted-from, standing-from, standing-snoc, standing-sorted, standing-le}
 use Rattle.window.proofs.Tiling.{ordered-weaken, ordered-snoc, ordered-sorted, ordered-from, from-from, entries-from, entries-snoc, entries-stable}
 use Rattle.window.proofs.Windows.{from-few}
-use Rattle.window.proofs.Bounds.{sum-bound}
-use Rattle.ints.specs.Sizes.{Small}
-use Rattle.ints.proofs.Sizes.{small-more}
-use Rattle.deque.specs.declared.compare.Extreme.{Extreme}
-use Rattle.deque.specs.declared.compare.Extreme.the-variants.{Maximum, Minimum}
 use Rattle.deque.specs.Rings.{capacity, newest}
-use Rattle.deque.specs.Extremes.{orderOf, trimmed, closedWith, closingCost}
-use Rattle.deque.specs.Sums.{sumLimit}
+use Rattle.deque.specs.Extremes.{trimmed, closedWith, closingCost}
 use Rattle.deque.specs.Retained.{Retained}
 use Rattle.deque.proofs.Trimming.{trimmed-le, trimmed-standing, trim-comparisons}
-
--- ---- the two orders, and the size of a partial's sum
-
--- which extreme is kept fixes a total order
-pub extreme-order : (e : Extreme) → Order (orderOf e)
-extreme-order Maximum = leZ-order
-extreme-order Minimum = geZ-order
-
--- the sum of up to 65,536 readings is within the bound that the rings ask
-pub sum-small : (xs : List ℤ) → Each IsReading xs → length xs ≤ 65536 → Small sumLimit (sum xs)
-sum-small xs h l = small-more _ sumLimit (sum xs) (omega arith) (sum-bound xs h)
 
 -- ---- room
 

@@ -1,7 +1,7 @@
 -- How an accepted call comes to what it promises: one law a call.
 -- Assumes nothing.
 use mathlib.Core.Path.{_≡_, refl, sym, ap, _∙_, subst}
-use mathlib.Core.Bool.{Bool, true, true≢false, not}
+use mathlib.Core.Bool.{Bool, true, false, true≢false, not}
 use mathlib.Core.List.{List, [], _∷_, _++_, map}
 use Prim.Native.Nat.{ℕ, _+_, _*_}
 use native.Mathlib.Omega.{arith}
@@ -20,17 +20,21 @@ use Rattle.window.specs.Calls.{IsReading, Call, register, withdraw, reading, to
 use Rattle.window.specs.Model as model
 use Rattle.window.specs.Model.{count, afterWithdraw, afterReading, answers, Stepped, answered, totalsOf, judged, newQuery, step}
 use Rattle.window.specs.Invariant.{Invariant}
+use Rattle.window.proofs.Queries.{none-due}
 use Rattle.window.proofs.Preserved.{initial-invariant, step-invariant}
 use Rattle.window.proofs.Steps.{accepted-refused, step-readings, register-queries, reading-queries}
 use Rattle.registry.specs.declared.queries.Queries.{Queries}
 use Rattle.registry.specs.Records.{used, Tidy}
 use Rattle.engine.specs.declared.partial.Open.the-variants.{Empty}
+use Rattle.engine.specs.declared.calls.Answered.{Answered}
+use Rattle.engine.specs.declared.calls.ReadingReply.{ReadingReply}
 use Rattle.engine.specs.declared.state.State.{State}
 use Rattle.engine.specs.Tables.{Tables, longEnough, enough, zeroed, TablesKept}
 use Rattle.engine.specs.States.{Intact, Judged, FreshState, withReading, withPartial, openWhileAny}
 use Rattle.engine.specs.Closings.{OpenClosed, ClosedWhere}
 use Rattle.engine.specs.Answers.{places, answeredPlaces, answersIn, answerFrom, InOrder}
 use Rattle.engine.specs.Machine.{Machine, machine, ListIs, StateIs, Represents}
+use Rattle.engine.specs.Outcomes.{readingOutcome}
 use Rattle.engine.specs.Contracts.{Ensures, written, ReadingEnsures, zeroedTables, StartEnsures}
 use Rattle.engine.proofs.Refinement.{read-is}
 use Rattle.engine.proofs.Registration.{registered-is, withdrawn-is, fresh-is}
@@ -38,6 +42,7 @@ use Rattle.engine.proofs.Answering.{in-order, answers-are}
 use Rattle.engine.proofs.Stepping.{verdictOf, acceptedStep, step-judged, same-verdict}
 use Rattle.engine.proofs.Keeping.{tables-same, kept-long, open-closed-kept, closed-where-kept}
 use Rattle.engine.proofs.Judging.{judged-passed}
+use Rattle.engine.proofs.Taking.{taken-count}
 
 -- ---- acceptances
 
@@ -47,12 +52,14 @@ pub record Passes (c : Call) (m : Machine) : Type 0 where
   pub intact : Intact (m .state) (m .queries)
   pub own : verdictOf c (m .state .count) (used (m .queries)) ≡ Passed
 
-pub passes : (c : Call) (m : Machine) (long : Bool) (w : Verdict) → long ≡ longEnough (m .tables)
+-- so it is where the verdict on checks 1, 2 and the call's own passes
+pub all-pass : (c : Call) (m : Machine) (long : Bool) (w : Verdict) → long ≡ longEnough (m .tables)
     → Judged long (m .state) (m .queries) (verdictOf c (m .state .count) (used (m .queries))) w → w ≡ Passed → Passes c m
-passes c m long w same j e =
+all-pass c m long w same j e =
     let p = judged-passed long (m .state) (m .queries) (verdictOf c (m .state .count) (used (m .queries))) w j e in
     record { long = sym same ∙ p .0; intact = p .1; own = p .2 }
 
+-- then the call keeps its promise where its outcome, list and state are those of the accepted step
 accepted-call : (c : Call) (m : Machine) (ns : List ℕ) (given : List Answer) (m′ : Machine)
     → Passes c m
     → OfReading IsReading c → TablesKept (m .tables) (m′ .tables)
@@ -66,7 +73,7 @@ accepted-call c m ns given m′ passes small kept lists state outcome =
       broken = λ k d. absurd (true≢false (sym d ∙ passes .intact .list));
       agrees = λ s rep. outcome s rep ∙ sym (ap (λ (x : Stepped). x .outcome) (step-accepted s rep));
       represents = λ s rep. record {
-        reached = step-invariant s c (rep .reached);
+        invariant = step-invariant s c (rep .invariant);
         readings = step-readings IsReading s c small (rep .readings);
         long = kept-long (m .tables) (m′ .tables) kept (passes .long);
         queries = subst (λ (x : Stepped). ListIs (x .state) (m′ .queries)) (sym (step-accepted s rep)) (lists s rep);
@@ -84,6 +91,7 @@ accepted-call c m ns given m′ passes small kept lists state outcome =
 abbrev pub joining : (number kind range slide origin : ℕ) → Query
 joining number kind range slide origin = record { number = number; kind = kind; range = range; slide = slide; origin = origin }
 
+-- an accepted registration: what is open closes, the query joins, and an empty partial is open
 pub accepted-register : (number kind range slide : ℕ) (m : Machine) (st′ st″ : State) (l′ : Queries) (t′ : Tables)
     → Passes (register number kind range slide) m
     → OpenClosed (m .state .partial) (horizon (m .state .count) (used (m .queries))) (m .state) (m .tables) st′ t′
@@ -106,7 +114,7 @@ accepted-register number kind range slide m st′ st″ l′ t′ passed closed 
       tidy = tidy (rep .queries .tidy);
     })
     (λ s rep.
-    registered-is s (newQuery s number kind range slide) (m .state) (m .tables) st′ t′ (rep .reached) (rep .state) refl
+    registered-is s (newQuery s number kind range slide) (m .state) (m .tables) st′ t′ (rep .invariant) (rep .state) refl
     (subst (λ (n : ℕ). OpenClosed (m .state .partial) (horizon n (s .queries)) (m .state) (m .tables) st′ t′) (rep .state .count)
     (subst (λ (qs : List Query). OpenClosed (m .state .partial) (horizon (m .state .count) qs) (m .state) (m .tables) st′ t′) (rep .queries .used) closed)))
     (λ s rep. refl))
@@ -114,6 +122,7 @@ accepted-register number kind range slide m st′ st″ l′ t′ passed closed 
     length-snoc : (qs : List Query) (q : Query) → length (qs ++ (q ∷ [])) ≡ length qs + 1
     length-snoc qs q = length-append qs (q ∷ [])
 
+-- an accepted withdrawal: the query leaves
 pub accepted-withdraw : (number : ℕ) (m : Machine) (st′ : State) (l′ : Queries)
     → Passes (withdraw number) m
     → l′ .count ≡ length (used l′)
@@ -129,12 +138,13 @@ accepted-withdraw number m st′ l′ passed few leaves tidy left =
     (λ s rep. record { count = few ∙ ap length (same s rep); used = same s rep; tidy = tidy })
     (λ s rep.
     subst (λ (k : ℕ). StateIs (afterWithdraw s number) (openWhileAny k (m .state)) (m .tables)) (sym (few ∙ ap length (same s rep)))
-    (withdrawn-is s number (m .state) (m .tables) (rep .reached) (rep .state)))
+    (withdrawn-is s number (m .state) (m .tables) (rep .invariant) (rep .state)))
     (λ s rep. refl))
   where
     same : (s : model.State) → Represents s m → used l′ ≡ filter (λ (q : Query). not (hasNumber number q)) (s .queries)
     same s rep = leaves ∙ ap (filter (λ (q : Query). not (hasNumber number q))) (rep .queries .used)
 
+-- accepted totals
 pub accepted-totals : (m : Machine) → Passes totals m
     → Ensures totals m (accepted (m .state .count ∷ m .state .closed ∷ m .state .maxima .comparisons ∷ m .state .minima .comparisons ∷ []) []) m
 unfolding totalsOf
@@ -152,19 +162,34 @@ answers-read [] rest = refl
 answers-read (a ∷ more) rest = ap (λ (x : List Answer). a ∷ x) (answers-read more rest)
 
 -- a reading was taken, what was open closed at an edge, and the due queries were answered
-pub record Took (v : ℤ) (before after : List ℤ) (m : Machine) (k : ℕ) (given : List Answer) (st′ : State) (t′ : Tables) : Type 0 where
+pub record ReadingTaken (v : ℤ) (before after : List ℤ) (m : Machine) (k : ℕ) (given : List Answer) (st′ : State) (t′ : Tables) : Type 0 where
   pub closed : ClosedWhere (any (edge (m .state .count + 1)) (used (m .queries))) (horizon (m .state .count + 1) (used (m .queries))) (withReading v (m .state)) (m .tables) st′ t′
   pub number : length given ≡ k
   pub written : after ≡ answeredPlaces given before
   pub answers : InOrder st′ t′ → given ≡ map (answerFrom st′ t′) (dueAt (st′ .count) (used (m .queries)))
 
+-- where there is no edge nothing closes, and no query is due
+pub uncut-taken : (v : ℤ) (before : List ℤ) (m : Machine) (taken : State) → taken ≡ withReading v (m .state) → any (edge (m .state .count + 1)) (used (m .queries)) ≡ false
+    → ReadingTaken v before before m 0 [] taken (m .tables)
+unfolding ClosedWhere
+uncut-taken v before m taken is e =
+    record {
+      closed = subst (λ (b : Bool). ClosedWhere b (horizon (m .state .count + 1) (used (m .queries))) (withReading v (m .state)) (m .tables) taken (m .tables)) (sym e) (is, refl);
+      number = refl;
+      written = refl;
+      answers = λ o. sym (ap (λ (n : ℕ). map (answerFrom taken (m .tables)) (dueAt n (used (m .queries)))) (taken-count v (m .state) taken is)
+          ∙ ap (map (answerFrom taken (m .tables))) (none-due (m .state .count + 1) (used (m .queries)) e));
+    }
+
+-- a reading that every check passes
 pub accepted-reading : (v : ℤ) (before after : List ℤ) (m : Machine) (k : ℕ) (given : List Answer) (st′ : State) (t′ : Tables)
     → Passes (reading v (length before)) m
-    → IsReading v → Took v before after m k given st′ t′
-    → ReadingEnsures v before after m (accepted (k ∷ []) (answersIn k after)) (machine st′ (m .queries) t′)
+    → IsReading v → ReadingTaken v before after m k given st′ t′ → (reply : ReadingReply) → reply ≡ record { outcome = Answered.Answers k; state = st′ }
+    → ReadingEnsures v before after m (readingOutcome (reply .outcome) after) (machine (reply .state) (m .queries) t′)
 unfolding answered ClosedWhere
-accepted-reading v before after m k given st′ t′ passed small took =
-    record {
+accepted-reading v before after m k given st′ t′ passed small took reply returned =
+    subst (λ (x : ReadingReply). ReadingEnsures v before after m (readingOutcome (x .outcome) after) (machine (x .state) (m .queries) t′)) (sym returned)
+    (record {
       ensures = accepted-call c m (k ∷ []) (answersIn k after) (machine st′ (m .queries) t′) passed small
           (closed-where-kept (any (edge (m .state .count + 1)) (used (m .queries))) (horizon (m .state .count + 1) (used (m .queries))) (withReading v (m .state)) (m .tables) st′ t′ (took .closed))
           (λ s rep. record {
@@ -176,7 +201,7 @@ accepted-reading v before after m k given st′ t′ passed small took =
           (λ s rep. rw (reads, same-answers s rep, sym (took .number), same-answers s rep));
       places = took .written ∙ sym (ap (λ (x : List Answer). answeredPlaces x before) reads);
       uncut = λ e. (subst (λ (b : Bool). ClosedWhere b (horizon (m .state .count + 1) (used (m .queries))) (withReading v (m .state)) (m .tables) st′ t′) e (took .closed)) .1;
-    }
+    })
   where
     c : Call
     c = reading v (length before)
@@ -186,7 +211,7 @@ accepted-reading v before after m k given st′ t′ passed small took =
 
     is : (s : model.State) → Represents s m → StateIs (afterReading s v) st′ t′
     is s rep =
-        read-is s v (m .state) (m .tables) st′ t′ (rep .reached) (rep .state)
+        read-is s v (m .state) (m .tables) st′ t′ (rep .invariant) (rep .state)
         (subst (λ (n : ℕ). ClosedWhere (any (edge (n + 1)) (s .queries)) (horizon (n + 1) (s .queries)) (withReading v (m .state)) (m .tables) st′ t′) (rep .state .count)
         (subst (λ (qs : List Query). ClosedWhere (any (edge (m .state .count + 1)) qs) (horizon (m .state .count + 1) qs) (withReading v (m .state)) (m .tables) st′ t′) (rep .queries .used) (took .closed)))
 
@@ -198,7 +223,7 @@ accepted-reading v before after m k given st′ t′ passed small took =
     same-answers s rep =
         took .answers (in-order (afterReading s v) st′ t′ (is s rep))
         ∙ ap (λ (qs : List Query). map (answerFrom st′ t′) (dueAt (st′ .count) qs)) (rep .queries .used ∙ sym (reading-queries s v))
-        ∙ answers-are (afterReading s v) st′ t′ (subst Invariant (stepped s rep) (step-invariant s c (rep .reached))) (is s rep)
+        ∙ answers-are (afterReading s v) st′ t′ (subst Invariant (stepped s rep) (step-invariant s c (rep .invariant))) (is s rep)
 
 -- ---- start
 
@@ -208,6 +233,7 @@ zeroed-long nought t =
     le-leb capacity (length (zeroed nought t))
     (omega (arith, length-append (replicate capacity nought) (drop capacity t), length-replicate capacity nought))
 
+-- so all six are
 tables-zeroed-long : (t : Tables) → longEnough (zeroedTables t) ≡ true
 unfolding enough
 tables-zeroed-long t =
@@ -229,7 +255,7 @@ accepted-start m st l t′ long fresh none empty tidy zeroes =
       short = λ k. absurd (true≢false (sym long ∙ k));
       accepts = λ k. refl;
       represents = λ k. record {
-        reached = initial-invariant;
+        invariant = initial-invariant;
         readings = tt;
         long = ap longEnough zeroes ∙ tables-zeroed-long (m .tables);
         queries = record { count = none; used = empty; tidy = tidy };

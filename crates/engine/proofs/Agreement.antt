@@ -17,6 +17,7 @@ record Follows (s : model.State) (c : Call) (o : Outcome) (m′ : Machine) : Typ
   agrees : o ≡ (step s c) .outcome
   represents : Represents ((step s c) .state) m′
 
+-- a call other than start and reading
 ensured : (s : model.State) (c : Call) (m : Machine) (o : Outcome) (m′ : Machine) → Ensures c m o m′ → Represents s m → Follows s c o m′
 ensured s c m o m′ e rep = record { agrees = e .agrees s rep; represents = e .represents s rep }
 
@@ -39,21 +40,23 @@ performed s {m} rep (called {m′ = n} {c = c} {o = o} e rest) =
     let k = performed ((step s c) .state) (f .represents) rest in
     (ap₂ (λ (x : Outcome) (xs : List Outcome). x ∷ xs) (f .agrees) (k .0), k .1)
 
--- what came from a start represents the model's state, with the model's outcomes
+-- a list of calls from fresh, on both sides
 from-start-outcomes : (fresh : Machine) → Fresh fresh → (calls : List Call) (outcomes : List Outcome) (m : Machine) → Performed fresh calls outcomes m
     → (outcomes ≡ (run initial calls) .outcomes) × Represents (reached calls) m
 from-start-outcomes fresh f calls outcomes m p = performed initial (f .started .represents (f .long)) p
 
 -- demand 3
 pub demand-3 : Demand3
+unfolding step
 demand-3 fresh f calls outcomes m p =
     let k = from-start-outcomes fresh f calls outcomes m p in
     let rep : Represents (reached calls) m = k .1 in
-    let b : Bounded (reached calls) = bounded (reached calls) (rep .reached) in
+    let b : Bounded (reached calls) = bounded (reached calls) (rep .invariant) in
     record {
       outcomes = k .0;
       queries = rep .queries .used;
       unused = rep .queries .tidy;
+      totalled = λ o m′ e. e .agrees (reached calls) rep;
       readings = rep .state .count;
       partials = rep .state .closed;
       maxima = rep .state .maxComparisons;
@@ -62,6 +65,7 @@ demand-3 fresh f calls outcomes m p =
       minBound = rw (rep .state .minComparisons, rep .state .closed) (b .minima);
     }
 
+-- what came from a start represents the model's state
 pub from-start : FromStart
 from-start fresh f calls outcomes m p = (from-start-outcomes fresh f calls outcomes m p) .1
 

@@ -50,24 +50,27 @@ deque-closed {below} {start} {h} {starts = starts} {starts′ = starts′} {valu
 -- ---- the closing of what is open
 
 module _ (o : Open) (h : ℕ) (st : State) (t : Tables) where
-  -- none is open, or one that holds no reading: nothing changes
+  -- none is open: nothing changes
   pub nothing-closed : o ≡ Nothing → OpenClosed o h st t st t
   nothing-closed e = subst (λ (x : Open). OpenClosed x h st t st t) (sym e) (refl, refl)
 
+  -- the same of one that holds no reading
   pub empty-closed : o ≡ Empty → OpenClosed o h st t st t
   empty-closed e = subst (λ (x : Open). OpenClosed x h st t st t) (sym e) (refl, refl)
 
-  -- an open partial that holds a reading closes at the horizon
+  -- an open partial that holds a reading closes, with that horizon
   pub holding-closed : (a : Aggregate) (found : ℕ) (st′ : State) (t′ : Tables) → o ≡ Holding a → found ≡ h → Closed a found st t st′ t′ → OpenClosed o h st t st′ t′
   holding-closed a found st′ t′ e i c =
       subst (λ (x : Open). OpenClosed x h st t st′ t′) (sym e) (subst (λ (n : ℕ). Closed a n st t st′ t′) i c)
 
 -- where the test holds, what is open closes, and otherwise nothing changes
 module _ (b found : Bool) (h : ℕ) (st : State) (t : Tables) (same : found ≡ b) where
+  -- it holds: what is open closes
   pub closed-there : (st′ : State) (t′ : Tables) → found ≡ true → OpenClosed (st .partial) h st t st′ t′ → ClosedWhere b h st t st′ t′
   unfolding ClosedWhere
   closed-there st′ t′ e c = subst (λ (x : Bool). ClosedWhere x h st t st′ t′) (sym e ∙ same) c
 
+  -- it does not: nothing changes
   pub not-closed : found ≡ false → ClosedWhere b h st t st t
   unfolding ClosedWhere
   not-closed e = subst (λ (x : Bool). ClosedWhere x h st t st t) (sym e ∙ same) (refl, refl)

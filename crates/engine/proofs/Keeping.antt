@@ -4,7 +4,6 @@ use mathlib.Core.Path.{_≡_, refl, sym, subst}
 use mathlib.Core.Bool.{Bool, true, false}
 use mathlib.Core.List.{List}
 use Prim.Native.Nat.{ℕ}
-use lib.ListN.{length}
 use Rattle.engine.specs.declared.partial.Open.{Open}
 use Rattle.engine.specs.declared.partial.Open.the-variants.{Nothing, Empty, Holding}
 use Rattle.engine.specs.declared.state.State.{State}
@@ -17,6 +16,7 @@ use Rattle.engine.specs.Closings.{OpenClosed, ClosedWhere}
 kept-same : {A : Type 0} (t : List A) → Kept t t
 kept-same t = record { asLong = refl; beyond = refl }
 
+-- so are tables
 pub tables-same : (t : Tables) → TablesKept t t
 tables-same t =
     record {
@@ -39,11 +39,12 @@ open-closed-kept Nothing h st t st′ t′ c = subst (TablesKept t) (sym (c .1))
 open-closed-kept Empty h st t st′ t′ c = subst (TablesKept t) (sym (c .1)) (tables-same t)
 open-closed-kept (Holding a) h st t st′ t′ c = c .kept
 
+-- also where it depends on a test
 pub closed-where-kept : (b : Bool) (h : ℕ) (st : State) (t : Tables) (st′ : State) (t′ : Tables) → ClosedWhere b h st t st′ t′ → TablesKept t t′
 unfolding ClosedWhere
 closed-where-kept true h st t st′ t′ c = open-closed-kept (st .partial) h st t st′ t′ c
 closed-where-kept false h st t st′ t′ c = subst (TablesKept t) (sym (c .1)) (tables-same t)
 
 -- after a closing the tables are as long as they were
-pub closed-long : (b : Bool) (h : ℕ) (st : State) (t : Tables) (st′ : State) (t′ : Tables) → ClosedWhere b h st t st′ t′ → longEnough t ≡ true → longEnough t′ ≡ true
-closed-long b h st t st′ t′ c = kept-long t t′ (closed-where-kept b h st t st′ t′ c)
+pub closed-long : (o : Open) (h : ℕ) (st : State) (t : Tables) (st′ : State) (t′ : Tables) → OpenClosed o h st t st′ t′ → longEnough t ≡ true → longEnough t′ ≡ true
+closed-long o h st t st′ t′ c = kept-long t t′ (open-closed-kept o h st t st′ t′ c)

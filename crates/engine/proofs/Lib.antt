@@ -1,5 +1,4 @@
 pub mod Aggregates
-pub mod Widened
 pub mod Boards
 pub mod Places
 pub mod Closings

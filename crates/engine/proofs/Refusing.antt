@@ -77,6 +77,7 @@ refused-call c m long w r one two same (isJudged l f) i =
 abbrev refusedWith : Refusal → Machine → Reply
 refusedWith r m = record { verdict = Refused r; state = m .state; queries = m .queries }
 
+-- a refused registration or withdrawal, by what it handed back
 pub refused-reply : (c : Call) (m : Machine) (long : Bool) (w : Verdict) (r : Refusal) (reply : Reply) → InRows c 1 → InRows c 2
     → long ≡ longEnough (m .tables) → Judged long (m .state) (m .queries) (verdictOf c (m .state .count) (used (m .queries))) w
     → w ≡ Refused r → reply ≡ refusedWith r m → Ensures c m (verdictOutcome (reply .verdict)) (machine (reply .state) (reply .queries) (m .tables))

@@ -138,6 +138,6 @@ module _ (s : model.State) (v : Invariant s) (readings : Each IsReading (s .read
 pub represents-intact : (s : model.State) (m : Machine) → Represents s m → Intact (m .state) (m .queries)
 represents-intact s m r =
     record {
-      list = list-intact s (r .reached) (r .readings) (m .state .count) (m .queries) (r .state .count) (r .queries);
-      state = state-sound s (r .reached) (r .readings) (m .state) (m .tables) (r .state);
+      list = list-intact s (r .invariant) (r .readings) (m .state .count) (m .queries) (r .state .count) (r .queries);
+      state = state-sound s (r .invariant) (r .readings) (m .state) (m .tables) (r .state);
     }

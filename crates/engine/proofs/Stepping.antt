@@ -36,6 +36,7 @@ acceptedStep s (withdraw number) = done (afterWithdraw s number)
 acceptedStep s (reading v places) = answered (afterReading s v)
 acceptedStep s totals = totalsOf s
 
+-- the step is the accepted one, or none, by the verdict
 pub step-judged : (s : model.State) (c : Call) → step s c ≡ judged (verdictOf c (count s) (s .queries)) s (acceptedStep s c)
 unfolding step
 step-judged s start = refl

@@ -1,7 +1,6 @@
 -- What an accepted reading passes on from step to step: the state with the reading, what is left of it after the closing, and the answers.
 -- Assumes nothing.
 use mathlib.Core.Path.{_≡_, refl, sym, ap, subst}
-use mathlib.Core.Bool.{Bool, true, false}
 use mathlib.Core.List.{List}
 use Prim.Native.Nat.{ℕ, _+_, _*_, _≤_, _<_}
 use native.Mathlib.Omega.{arith}
@@ -53,20 +52,17 @@ pub record Left (st st′ : State) : Type 0 where
   pub maxRing : Fits (st′ .maxima .ring)
   pub minRing : Fits (st′ .minima .ring)
 
+-- so they are where nothing changes
 same-left : (st st′ : State) → Ready st → st′ ≡ st → Left st st′
 same-left st st′ r e = subst (Left st) (sym e) (record { count = refl; sums = r .sums; maxRing = r .maxRing; minRing = r .minRing })
 
-open-left : (o : Open) (h : ℕ) (st : State) (t : Tables) (st′ : State) (t′ : Tables) → Ready st → OpenClosed o h st t st′ t′ → Left st st′
+-- and after the closing of what is open
+pub open-left : (o : Open) (h : ℕ) (st : State) (t : Tables) (st′ : State) (t′ : Tables) → Ready st → OpenClosed o h st t st′ t′ → Left st st′
 open-left Nothing h st t st′ t′ r c = same-left st st′ r (c .0)
 open-left Empty h st t st′ t′ r c = same-left st st′ r (c .0)
 open-left (Holding a) h st t st′ t′ r c =
     record { count = c .count; sums = c .fits; maxRing = c .maxima .fits; minRing = c .minima .fits }
 
-pub closed-left : (b : Bool) (h : ℕ) (st : State) (t : Tables) (st′ : State) (t′ : Tables) → Ready st → ClosedWhere b h st t st′ t′ → Left st st′
-unfolding ClosedWhere
-closed-left true h st t st′ t′ r c = open-left (st .partial) h st t st′ t′ r c
-closed-left false h st t st′ t′ r c = same-left st st′ r (c .0)
-
 -- the answers of those that are due fit the answer table
-pub due-fit : (n m places : ℕ) (qs : List Query) → m ≡ n + 1 → answerPlaces * length (dueAt (n + 1) qs) ≤ places → 4 * length (dueAt m qs) ≤ places
+pub due-fit : (n m places : ℕ) (qs : List Query) → m ≡ n + 1 → answerPlaces * length (dueAt (n + 1) qs) ≤ places → answerPlaces * length (dueAt m qs) ≤ places
 due-fit n m places qs e l = rw e l

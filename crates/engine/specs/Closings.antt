@@ -31,13 +31,13 @@ pub record Ready (st : State) : Type 0 where
   pub minTotal : st .minima .comparisons ≤ totalLimit countLimit
   pub partial : (a : Aggregate) → st .partial ≡ Holding a → Small sumLimit (a .sum) × (st .closed < countLimit)
 
--- a deque, on its tables of starts and values, before and after the closing of y at the horizon h
+-- a deque, on its tables of starts and values, before and after the closing of y, with the horizon h
 pub record DequeClosed (below : ℤ → ℤ → Bool) (y : Entry ℤ) (h : ℕ) (starts : List ℕ) (values : List ℤ) (d : Deque) (starts′ : List ℕ) (values′ : List ℤ) (d′ : Deque) : Type 0 where
   pub fits : Fits (d′ .ring)
   pub entries : entriesOf starts′ values′ (d′ .ring) ≡ closedWith below y h (entriesOf starts values (d .ring))
   pub cost : d′ .comparisons ≡ d .comparisons + closingCost below y h (entriesOf starts values (d .ring))
 
--- state and tables before and after the closing of the open partial a at the horizon h
+-- state and tables before and after the closing of the open partial a, with the horizon h
 pub record Closed (a : Aggregate) (h : ℕ) (st : State) (t : Tables) (st′ : State) (t′ : Tables) : Type 0 where
   pub count : st′ .count ≡ st .count
   pub closed : st′ .closed ≡ st .closed + 1

@@ -4,7 +4,6 @@ use Prim.Native.Nat.{ℕ, _+_}
 use mathlib.Core.Path.{_≡_}
 use mathlib.Core.Bool.{Bool, true, false}
 use mathlib.Core.List.{List, [], _∷_}
-use lib.Dec.{eqb}
 use lib.IntN.{ℤ, pos}
 use lib.ListN.{length}
 use Rattle.window.specs.Lists.{any}
@@ -13,7 +12,7 @@ use Rattle.window.specs.Refusals.{damaged}
 use Rattle.window.specs.Calls.{Call, start, register, withdraw, reading, totals, Outcome, accepted, refused}
 use Rattle.window.specs.Model as model
 use Rattle.window.specs.Model.{initial, step}
-use Rattle.registry.specs.Records.{used}
+use Rattle.registry.specs.Records.{used, occurs}
 use Rattle.engine.specs.Tables.{Tables, tables, longEnough, zeroed, TablesKept}
 use Rattle.engine.specs.Answers.{answeredPlaces}
 use Rattle.engine.specs.Machine.{Machine, Represents}
@@ -30,7 +29,7 @@ rows totals = 1 ∷ 2 ∷ []
 
 -- the number k is one of them
 abbrev pub InRows : Call → ℕ → Type 0
-InRows c k = any (λ (j : ℕ). eqb k j) (rows c) ≡ true
+InRows c k = occurs k (rows c) ≡ true
 
 -- number 2 is always given where the query count is above 32, a used record breaks 3 to 6 or has g above n, or two used records share a number
 abbrev pub listDamaged : Machine → Bool

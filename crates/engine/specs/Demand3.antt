@@ -8,17 +8,21 @@ use mathlib.Core.List.{List, [], _∷_}
 use lib.IntN.{ℤ}
 use lib.ListN.{length}
 use Rattle.window.specs.Calls.{Call, start, register, withdraw, reading, totals, Outcome, refused}
-use Rattle.window.specs.Model.{count, initial, Ran, run, reached}
+use Rattle.window.specs.Model.{count, initial, totalsOf, Ran, run, reached}
 use Rattle.registry.specs.Records.{used, Tidy}
 use Rattle.engine.specs.Tables.{longEnough}
+use Rattle.engine.specs.declared.calls.Answered.{Answered}
 use Rattle.engine.specs.Machine.{Machine, Represents}
+use Rattle.engine.specs.Outcomes.{readingOutcome}
 use Rattle.engine.specs.Contracts.{Ensures, ReadingEnsures, StartEnsures}
 
--- a reading is given an answer table of so many places, with any content
+-- a reading is given an answer table of so many places, with any content; its answers are read from the places as it leaves them
 pub record Reads (v : ℤ) (places : ℕ) (m : Machine) (o : Outcome) (m′ : Machine) : Type 0 where
   pub before : List ℤ
   pub after : List ℤ
+  pub returned : Answered
   pub long : length before ≡ places
+  pub read : o ≡ readingOutcome returned after
   pub ensures : ReadingEnsures v before after m o m′
 
 -- the engine's call c on m came to o and left m′: exactly what the contracts of the five calls say
@@ -31,7 +35,9 @@ Performs totals m o m′ = Ensures totals m o m′
 
 -- a list of calls, each on what the call before left, with the outcome of each
 pub data Performed : Machine → List Call → List Outcome → Machine → Type 0 where
+  -- no call leaves all as it is
   ended : {m : Machine} → Performed m [] [] m
+  -- a first call, and then the others on what it left
   called : {m m′ m″ : Machine} {c : Call} {cs : List Call} {o : Outcome} {os : List Outcome}
       → Performs c m o m′ → Performed m′ cs os m″ → Performed m (c ∷ cs) (o ∷ os) m″
 
@@ -42,14 +48,15 @@ pub record Fresh (m : Machine) : Type 0 where
   pub long : longEnough (before .tables) ≡ true
   pub started : StartEnsures before outcome m
 
--- the calls cs came to the outcomes os and left m: so they do in the model `r`
+-- a run of the engine that came to the outcomes os and left m, against the model's run r of the same calls
 pub record AgreesWith (r : Ran) (os : List Outcome) (m : Machine) : Type 0 where
   -- for each call: acceptance or refusal, the numbers returned and, at an accepted reading, the answers
   pub outcomes : os ≡ r .outcomes
   -- after the list: the queries, with all unused records 0
   pub queries : used (m .queries) ≡ r .state .queries
   pub unused : Tidy (m .queries)
-  -- n, P, M and N
+  -- n, P, M and N, in the state and as a totals call would return them
+  pub totalled : (o : Outcome) (m′ : Machine) → Performs totals m o m′ → o ≡ (totalsOf (r .state)) .outcome
   pub readings : m .state .count ≡ count (r .state)
   pub partials : m .state .closed ≡ length (r .state .closed)
   pub maxima : m .state .maxima .comparisons ≡ r .state .maxComparisons

@@ -36,6 +36,7 @@ pub record Machine : Type 0 where
   pub queries : Queries
   pub tables : Tables
 
+-- the three, in this order
 abbrev pub machine : State → Queries → Tables → Machine
 machine st l t = record { state = st; queries = l; tables = t }
 
@@ -92,9 +93,9 @@ pub record StateIs (s : model.State) (st : State) (t : Tables) : Type 0 where
   pub partial : OpenIs (st .partial) s
   pub board : Holds s st t
 
--- the machine represents the state s of the model, one that calls lead to: its invariant holds, and its readings are signed 32-bit numbers
+-- the machine represents the state s of the model, which has the invariant, as all that calls lead to has, and whose readings are signed 32-bit numbers
 pub record Represents (s : model.State) (m : Machine) : Type 0 where
-  pub reached : Invariant s
+  pub invariant : Invariant s
   pub readings : Each IsReading (s .readings)
   pub long : longEnough (m .tables) ≡ true
   pub queries : ListIs s (m .queries)

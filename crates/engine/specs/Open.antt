@@ -45,6 +45,7 @@ pub record FitsAggregate (n closed : ℕ) (a : Aggregate) : Type 0 where
   pub short : n < a .start + lengthLimit
   pub small : Small ((n - a .start) * readingSize) (a .sum)
 
+-- the same of what is open: of none and of an empty one nothing is asked
 abbrev pub FitsOpen : ℕ → ℕ → Open → Type 0
 FitsOpen n closed Nothing = Unit {0}
 FitsOpen n closed Empty = Unit {0}

@@ -24,5 +24,5 @@ readingOutcome (answered.Refused r) places = refused (refusalNumber r)
 
 -- totals returns n, P, M and N
 abbrev pub totalsOutcome : TotalsReply → Outcome
-totalsOutcome (totals.Are n p a b) = accepted (n ∷ p ∷ a ∷ b ∷ []) []
+totalsOutcome (totals.Totals n p a b) = accepted (n ∷ p ∷ a ∷ b ∷ []) []
 totalsOutcome (totals.Refused r) = refused (refusalNumber r)

@@ -9,6 +9,7 @@ use lib.IntN.{ℤ}
 use lib.ListN.{length, replicate, drop}
 use Rattle.deque.specs.Rings.{capacity, BeyondKept}
 
+-- the six tables, as lists
 pub record Tables : Type 0 where
   -- starts and sums of partials
   pub starts : List ℕ
@@ -28,6 +29,7 @@ unfoldable pub enough : (a b c d e f : ℕ) → Bool
 enough a b c d e f =
     leb capacity a && (leb capacity b && (leb capacity c && (leb capacity d && (leb capacity e && leb capacity f))))
 
+-- the same of tables
 abbrev pub longEnough : Tables → Bool
 longEnough t =
     enough (length (t .starts)) (length (t .sums)) (length (t .maxStarts)) (length (t .maxValues)) (length (t .minStarts)) (length (t .minValues))

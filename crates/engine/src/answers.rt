@@ -8,11 +8,10 @@ ghost use mathlib.Core.Path.{_≡_};
 ghost use mathlib.Core.Bool.{true};
 ghost use mathlib.Core.List.{List, map};
 ghost use Prim.Native.Nat.{_+_, _*_, _≤_};
-ghost use lib.IntN.{pos};
 ghost use lib.ListN.{length};
 ghost use Rattle.window.specs.Lists.{Each};
 ghost use Rattle.window.specs.Queries.{Limits};
-ghost use Rattle.window.specs.Refusals.{dueAt};
+ghost use Rattle.window.specs.Refusals.{answerPlaces, dueAt};
 ghost use Rattle.window.specs.Calls.{Answer};
 ghost use Rattle.deque.specs.Rings.{Fits};
 ghost use Rattle.deque.specs.Sums.{FitsSums};
@@ -22,7 +21,7 @@ ghost use Rattle.engine.specs.Answers.{answerWith, putAt, answeredPlaces
 
 // One answer is written: query number, kind, count of readings in the window, value.
 fn put_answer(answers: &mut [i64], at: usize, q: Query, count: Count, value: i64)
-    requires { ⌜ at + 4 ≤ length (now answers) ⌝ }
+    requires { ⌜ at + answerPlaces ≤ length (now answers) ⌝ }
     ensures { λ _. ⌜ now (answers .exit) ≡ putAt at (answerWith q count value) (now (answers .entry)) ⌝ }
 {
     answers[at] = q.number as i64;
@@ -79,7 +78,7 @@ impl State {
     ) -> usize
         requires { ⌜ FitsSums (self .sums) × Fits (self .maxima .ring) × Fits (self .minima .ring)
             × (queries .count ≤ recordLimit) × Each Limits (used queries) × Each (λ (q : Query). q .origin ≤ self .count) (used queries)
-            × (4 * length (dueAt (self .count) (used queries)) ≤ length (now answers))
+            × (answerPlaces * length (dueAt (self .count) (used queries)) ≤ length (now answers))
             × (longEnough (tables (now starts) (now sums) (now «max_starts») (now «max_values») (now «min_starts») (now «min_values»)) ≡ true) ⌝ }
         ensures count { λ r. ⌜ r ≡ length (dueAt (self .count) (used queries)) ⌝ }
         ensures places { λ r. ⌜ ((given : List Answer) × (length given ≡ r) × (now (answers .exit) ≡ answeredPlaces given (now (answers .entry)))

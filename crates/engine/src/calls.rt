@@ -42,7 +42,7 @@ pub struct ReadingReply {
 
 // What a call of totals comes to: n, P, M and N, or a refusal.
 pub enum TotalsReply {
-    Are(Count, Count, u64, u64),
+    Totals(Count, Count, u64, u64),
     Refused(Refusal),
 }
 
@@ -63,6 +63,14 @@ fn refused_reading(state: State, refusal: Refusal) -> ReadingReply
     ensures { λ r. ⌜ r ≡ record { outcome = Answered.Refused refusal; state = state } ⌝ }
 {
     let outcome = Answered::Refused(refusal);
+    ReadingReply { outcome, state }
+}
+
+// An accepted reading hands back the state after it, and how many answers it wrote.
+fn accepted_reading(state: State, answers: usize) -> ReadingReply
+    ensures { λ r. ⌜ r ≡ record { outcome = Answered.Answers answers; state = state } ⌝ }
+{
+    let outcome = Answered::Answers(answers);
     ReadingReply { outcome, state }
 }
 
@@ -230,7 +238,7 @@ pub fn totals(
     }
     let maxima = state.maxima;
     let minima = state.minima;
-    TotalsReply::Are(
+    TotalsReply::Totals(
         state.count,
         state.closed,
         maxima.comparisons,
@@ -238,7 +246,7 @@ pub fn totals(
     )
 }
 
-// Reading: it joins the readings, what is open closes at an edge, and the due queries are answered.
+// Reading: it joins the readings, and that is all where no query has an edge. At an edge what is open closes, and the due queries are answered.
 pub fn reading(
     state: State,
     queries: Queries,
@@ -268,7 +276,10 @@ pub fn reading(
         return refused_reading(state, refusal);
     }
     let taken = state.with_reading(value);
-    let closed = taken.close_at_edge(
+    if !queries.any_edge(taken.count) {
+        return accepted_reading(taken, 0);
+    }
+    let closed = taken.close_open(
         queries,
         starts,
         sums,
@@ -277,7 +288,7 @@ pub fn reading(
         min_starts,
         min_values,
     );
-    let answered = closed.answer_due(
+    let answers = closed.answer_due(
         queries,
         starts,
         sums,
@@ -287,9 +298,5 @@ pub fn reading(
         min_values,
         answers,
     );
-    let outcome = Answered::Answers(answered);
-    ReadingReply {
-        outcome,
-        state: closed,
-    }
+    accepted_reading(closed, answers)
 }

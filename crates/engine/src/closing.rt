@@ -8,16 +8,15 @@ use window::query::Count;
 use window::query::Query;
 ghost use mathlib.Core.Path.{_≡_};
 ghost use mathlib.Core.Bool.{true};
-ghost use Prim.Native.Nat.{_≤_, _<_};
-ghost use lib.ListN.{length};
-ghost use Rattle.window.specs.Lists.{any, Each};
-ghost use Rattle.window.specs.Queries.{Limits, edge, horizon};
+ghost use Prim.Native.Nat.{_≤_};
+ghost use Rattle.window.specs.Lists.{Each};
+ghost use Rattle.window.specs.Queries.{horizon};
 ghost use Rattle.registry.specs.Records.{recordLimit, used};
 ghost use Rattle.engine.specs.Tables.{tables, longEnough};
-ghost use Rattle.engine.specs.Closings.{Ready, Closed, OpenClosed, ClosedWhere};
+ghost use Rattle.engine.specs.Closings.{Ready, Closed, OpenClosed};
 
 impl State {
-    // The open partial a closes at the horizon, and an empty one is open.
+    // The open partial a closes, what starts before the horizon being evicted first, and an empty one is open.
     fn close(
         self,
         a: Aggregate,
@@ -101,37 +100,5 @@ impl State {
                 )
             }
         }
-    }
-
-    // The open partial closes where n is an edge of some query. Where it is none, no table is touched.
-    pub(crate) fn close_at_edge(
-        self,
-        queries: Queries,
-        starts: &mut [Count],
-        sums: &mut [i64],
-        max_starts: &mut [Count],
-        max_values: &mut [i32],
-        min_starts: &mut [Count],
-        min_values: &mut [i32],
-    ) -> State
-        requires { ⌜ Ready self
-            × (queries .count ≤ recordLimit) × Each Limits (used queries) × Each (λ (q : Query). q .origin ≤ self .count) (used queries)
-            × (longEnough (tables (now starts) (now sums) (now «max_starts») (now «max_values») (now «min_starts») (now «min_values»)) ≡ true) ⌝ }
-        ensures { λ r. ⌜ ClosedWhere (any (edge (self .count)) (used queries)) (horizon (self .count) (used queries))
-            self (tables (now (starts .entry)) (now (sums .entry)) (now («max_starts» .entry)) (now («max_values» .entry)) (now («min_starts» .entry)) (now («min_values» .entry)))
-            r (tables (now (starts .exit)) (now (sums .exit)) (now («max_starts» .exit)) (now («max_values» .exit)) (now («min_starts» .exit)) (now («min_values» .exit))) ⌝ }
-    {
-        if !queries.any_edge(self.count) {
-            return self;
-        }
-        self.close_open(
-            queries,
-            starts,
-            sums,
-            max_starts,
-            max_values,
-            min_starts,
-            min_values,
-        )
     }
 }

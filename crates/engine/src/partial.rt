@@ -4,7 +4,7 @@ use window::query::Count;
 use window::query::LENGTH_LIMIT;
 ghost use mathlib.Core.Path.{_≡_};
 ghost use mathlib.Core.Bool.{true};
-ghost use Prim.Native.Nat.{_<_, _≤_};
+ghost use Prim.Native.Nat.{_<_};
 ghost use Rattle.ints.specs.Sizes.{Small};
 ghost use Rattle.window.specs.Orders.{greater};
 ghost use Rattle.deque.specs.Extremes.{orderOf};

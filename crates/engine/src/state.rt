@@ -8,9 +8,9 @@ ghost use mathlib.Core.Bool.{true};
 ghost use Prim.Native.Nat.{_+_, _-_, _*_, _<_, _≤_};
 ghost use Rattle.window.specs.Queries.{countLimit};
 ghost use Rattle.deque.specs.Rings.{Fits};
-ghost use Rattle.engine.specs.Open.{openWith};
 ghost use Rattle.engine.specs.States.{Sound, totalLimit, withReading, withPartial, openWhileAny, FreshState};
 
+// What the engine knows between two calls, beside the query list and the lent tables.
 pub struct State {
     // Document 01's n: the count of accepted readings since the start.
     pub count: Count,

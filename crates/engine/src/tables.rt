@@ -3,11 +3,10 @@ use deque::ring::CAPACITY;
 use window::query::Count;
 ghost use mathlib.Core.Path.{_≡_};
 ghost use mathlib.Core.Bool.{_&&_};
-ghost use mathlib.Core.List.{_++_};
 ghost use Prim.Native.Nat.{_≤_};
 ghost use lib.Dec.{leb};
 ghost use lib.IntN.{pos};
-ghost use lib.ListN.{length, replicate, drop};
+ghost use lib.ListN.{length};
 ghost use Rattle.deque.specs.Rings.{capacity};
 ghost use Rattle.engine.specs.Tables.{enough, zeroed};
 

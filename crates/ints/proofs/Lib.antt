@@ -1,3 +1,4 @@
 pub mod Balance
 pub mod Round
 pub mod Sizes
+pub mod Widened

@@ -1,4 +1,4 @@
-pub mod Judged
+pub mod Intact
 pub mod Scans
 pub mod Joining
 pub mod Damage

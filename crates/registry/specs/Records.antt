@@ -8,11 +8,12 @@ use lib.Dec.{eqb}
 use lib.ListN.{take, replicate}
 use Rattle.window.specs.declared.query.Query.{Query}
 use Rattle.window.specs.Lists.{any}
+use Rattle.window.specs.Queries.{queryLimit}
 use Rattle.registry.specs.declared.queries.Queries.{Queries}
 
--- the list has 32 records
+-- the list has 32 records, one for each query that can be registered
 abbrev pub recordLimit : ℕ
-recordLimit = 32
+recordLimit = queryLimit
 
 -- an unused record is all 0
 abbrev pub unused : Query

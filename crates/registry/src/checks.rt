@@ -8,12 +8,12 @@ use window::refusal::Verdict;
 use window::refusal::check_fields;
 ghost use mathlib.Core.Path.{_≡_};
 ghost use mathlib.Core.Bool.{_&&_, _||_};
-ghost use Prim.Native.Nat.{_+_, _*_, _<_, _≤_, _^_};
+ghost use Prim.Native.Nat.{_+_, _*_, _<_, _≤_};
 ghost use lib.Dec.{ltb};
-ghost use lib.ListN.{length, take, drop};
+ghost use lib.ListN.{take, drop};
 ghost use Rattle.window.specs.Lists.{any, Each};
-ghost use Rattle.window.specs.Queries.{Limits, countLimit};
-ghost use Rattle.window.specs.Refusals.{brokenRecord, sharedNumber, damaged, firstRefusal, registerChecks, withdrawChecks, readingChecks};
+ghost use Rattle.window.specs.Queries.{Limits};
+ghost use Rattle.window.specs.Refusals.{brokenRecord, damaged, firstRefusal, registerChecks, withdrawChecks, readingChecks};
 ghost use Rattle.registry.specs.Records.{recordLimit, used, numbersOf, occurs, repeats};
 
 // The greatest count of readings.
@@ -54,7 +54,7 @@ fn found_at(found: bool, i: usize, j: usize, end: usize, same: bool) -> bool
     either(found, both(after, same))
 }
 
-// Whether this number stands at a place after i and before the end. Every place is looked at, with no early exit, so that the compiler looks at several at once.
+// Whether this number stands at a place after i and before the end. Every place is looked at, with no early exit, so that the compiler can compare several at once.
 fn occurs(number: u32, numbers: [u32; 32], i: usize, end: usize) -> bool
     requires { ⌜ end ≤ recordLimit ⌝ }
     ensures { λ r. ⌜ r ≡ occurs number (drop (i + 1) (take end numbers)) ⌝ }

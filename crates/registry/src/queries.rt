@@ -4,7 +4,6 @@ ghost use mathlib.Core.Path.{_≡_};
 ghost use mathlib.Core.Bool.{not};
 ghost use mathlib.Core.List.{[], _∷_, _++_};
 ghost use Prim.Native.Nat.{_+_, _<_, _≤_};
-ghost use lib.ListN.{length};
 ghost use Rattle.window.specs.Lists.{filter};
 ghost use Rattle.window.specs.Refusals.{isRegistered, hasNumber};
 ghost use Rattle.registry.specs.Records.{recordLimit, unused, used, Tidy};
@@ -12,6 +11,7 @@ ghost use Rattle.registry.specs.Records.{recordLimit, unused, used, Tidy
 // How many records the list has.
 pub const RECORDS: usize = 32;
 
+// The registered queries, by value.
 pub struct Queries {
     // How many records are used.
     pub count: usize,

@@ -1,7 +1,7 @@
 -- The laws of queries: the remainder by which the code finds an edge, the places where windows begin and end (W1), and the horizon.
 -- Assumes nothing.
 use mathlib.Core.Path.{_≡_, refl, ap}
-use mathlib.Core.Bool.{Bool, true, false, _||_, cond}
+use mathlib.Core.Bool.{Bool, true, false, _&&_, _||_, cond}
 use mathlib.Core.List.{List, [], _∷_, _++_}
 use Prim.Native.Nat.{ℕ, _+_, _*_, _-_, _/_, _%_, _≤_, _<_, max, min}
 use native.Mathlib.Nat.{le-refl, mod-add-mod, mul-mod-left, div-add-mod'}
@@ -9,10 +9,11 @@ use native.Mathlib.Omega.{arith}
 use lib.Dec.{leb, ltb, eqb}
 use borrow.Author.Tests.{leb-true, leb-false, ltb-true, lt-ltb, eqb-true, eq-eqb, ne-eqb}
 use Rattle.window.specs.declared.query.Query.{Query}
-use Rattle.window.specs.Lists.{filter, Each}
+use Rattle.window.specs.Lists.{filter, any, Each}
 use Rattle.window.specs.Queries.{Limits, lengthLimit, phase, due, edge, windowStart, horizon}
+use Rattle.window.specs.Refusals.{dueAt}
 use Rattle.window.specs.Invariant.{marks}
-use Rattle.window.proofs.Lists.{and-left, and-right, or-left, or-right, each-map, each-filter}
+use Rattle.window.proofs.Lists.{and-left, and-right, or-left, or-right, not-left, not-right, each-map, each-filter}
 
 -- ---- an edge by the remainder of the phase x
 
@@ -53,6 +54,20 @@ due-after n q h = ltb-true (q .origin) n (and-left (ltb (q .origin) n) (eqb (pha
 
 due-multiple : (n : ℕ) (q : Query) → due n q ≡ true → phase n q % q .slide ≡ 0
 due-multiple n q h = eqb-true (phase n q % q .slide) 0 (and-right (ltb (q .origin) n) (eqb (phase n q % q .slide) 0) h)
+
+-- where there is no edge the query is not due
+edge-not-due : (n : ℕ) (q : Query) → edge n q ≡ false → due n q ≡ false
+edge-not-due n q e = go (ltb (q .origin) n) (eqb (phase n q % q .slide) 0) (eqb ((phase n q + q .range) % q .slide) 0) e
+  where
+    go : (a b c : Bool) → (a && (b || c)) ≡ false → (a && b) ≡ false
+    go true true c h = h
+    go true false c h = refl
+    go false b c h = refl
+
+-- so where no query has an edge none is due
+pub none-due : (n : ℕ) (qs : List Query) → any (edge n) qs ≡ false → dueAt n qs ≡ []
+none-due n [] e = refl
+none-due n (q ∷ qs) e = rw (edge-not-due n q (not-left (edge n q) (any (edge n) qs) e)) (none-due n qs (not-right (edge n q) (any (edge n) qs) e))
 
 -- a window ends where its query is due
 pub due-marks : (n : ℕ) (q : Query) → due n q ≡ true → marks n q ≡ true

@@ -116,9 +116,6 @@ limits-any q g =
       within-both 1 lengthLimit (q .slide) (g .slideLow) (g .slideHigh),
     )
 
-pub limits-passed : (q : Query) → Limits q → firstRefusal (fieldChecks (q .number) (q .kind) (q .range) (q .slide)) ≡ Passed
-limits-passed q g = any-passed (fieldChecks (q .number) (q .kind) (q .range) (q .slide)) (limits-any q g)
-
 -- ---- a registration and a reading
 
 -- q can join the list

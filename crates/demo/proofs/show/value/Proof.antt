@@ -1,15 +1,12 @@
--- `show::value` meets its contract. A number of 32 bits fits 64.
+-- `show::value` does not fault: a number of 32 bits fits 64.
 -- Assumes nothing.
-use mathlib.Core.Path.{sym, subst}
-use mir.Syntax.{w32, w64}
-use mir.Val.{SFits}
-use mir.Facts.{toZ-ofZ, sfits-widen}
 use borrow.Author.Needs.{needs}
+use Rattle.ints.proofs.Widened.{wide-fits}
 use Rattle.demo.proofs.show.value.Statement.{statement}
 use Rattle.demo.proofs.show.value.Tie as tie
 
 cast-signed : tie.Need-cast-signed
-cast-signed c = subst (λ z. SFits w64 z) (sym (toZ-ofZ (c .fits .x))) (sfits-widen {w = w32} {w′ = w64} tt (c .fits .x))
+cast-signed c = wide-fits (c .fits .x)
 
 signed-requires : tie.Need-signed-requires
 signed-requires c κs = search needs

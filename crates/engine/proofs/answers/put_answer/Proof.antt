@@ -1,3 +1,4 @@
+-- `put_answer` meets its contract: four stores write the places of an answer. Assumes nothing.
 use native.Mathlib.Omega.{arith}
 use borrow.Author.Needs.{needs}
 use lib.ListN.{length-set}

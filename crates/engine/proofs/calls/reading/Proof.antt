@@ -2,24 +2,26 @@
 -- Assumes nothing.
 use mathlib.Core.Path.{_≡_, sym, ap, _∙_, subst}
 use Prim.Native.Nat.{ℕ, _≤_}
+use borrow.Author.Tests.{not-true, not-false}
 use borrow.Author.Needs.{needs}
 use lib.IntN.{ℤ}
 use lib.ListN.{length}
 use mir.Facts.{toZ-ofZ}
 use Rattle.window.specs.declared.query.Query.{Query}
-use Rattle.window.specs.Lists.{Each}
-use Rattle.window.specs.Queries.{Limits}
+use Rattle.window.specs.Lists.{any, Each}
+use Rattle.window.specs.Queries.{Limits, edge}
 use Rattle.window.specs.Calls as calls
 use Rattle.window.proofs.Refusals.{Counts, reading-passed}
 use Rattle.registry.specs.Records.{recordLimit, used}
-use Rattle.registry.proofs.Judged.{intact-few, intact-limits, intact-origins}
+use Rattle.registry.proofs.Intact.{intact-few, intact-limits, intact-origins}
 use Rattle.engine.specs.Machine.{Machine, machine}
 use Rattle.engine.specs.Tables.{tables}
 use Rattle.engine.specs.States.{withReading}
 use Rattle.engine.specs.Closings.{Ready}
-use Rattle.engine.proofs.Taking.{taken-ready, taken-count, taken-origins, taken-closed, Left, closed-left, due-fit}
-use Rattle.engine.proofs.Accepting.{Passes, passes, accepted-reading}
+use Rattle.engine.proofs.Taking.{taken-ready, taken-count, taken-origins, taken-closed, Left, open-left, due-fit}
+use Rattle.engine.proofs.Accepting.{Passes, all-pass, uncut-taken, accepted-reading}
 use Rattle.engine.proofs.Keeping.{closed-long}
+use Rattle.engine.proofs.Closings.{closed-there}
 use Rattle.engine.proofs.Refusing.{refused-reading}
 use Rattle.engine.proofs.calls.reading.Statement.{statement}
 use Rattle.engine.proofs.calls.reading.Tie as tie
@@ -44,7 +46,7 @@ begun c = began (c .before .before)
 checked : (c : tie.After-enum-told) → Passes (asked (begun c)) (given (begun c))
 checked c =
     let j = c .before .before in
-    passes (asked (began j)) (given (began j)) _ _ (j .before .enough .ensures) (j .judge-reading .ensures) (c .enum-told .given .1)
+    all-pass (asked (began j)) (given (began j)) _ _ (j .before .enough .ensures) (j .judge-reading .ensures) (c .enum-told .given .1)
 
 -- so n can grow, and the answers fit their table
 counts : (c : tie.After-enum-told) → Counts (begun c .args .state .count) (used (begun c .args .queries)) (length (begun c .args .answers .now))
@@ -60,9 +62,9 @@ limits c = let a = begun c .args in intact-limits (a .state .count) (a .queries 
 origins : (c : tie.After-enum-told) → Each (λ (q : Query). q .origin ≤ begun c .args .state .count) (used (begun c .args .queries))
 origins c = let a = begun c .args in intact-origins (a .state .count) (a .queries .count) (used (a .queries)) (checked c .intact .list)
 
--- the place after the reading was taken, from that before the closing
-abbrev told : tie.After-close-at-edge-arg6 → tie.After-with-reading
-told c = c .before .before .before .before .before .before
+-- the place after the reading was taken, from that where an edge was found
+abbrev told : tie.Else1 → tie.After-with-reading
+told t = t .before .before
 
 -- the state is that with the reading
 is : (w : tie.After-with-reading) → w .with-reading .result ≡ withReading (begun (w .before) .args .value) (begun (w .before) .args .state)
@@ -75,13 +77,22 @@ ready w =
     let s = begun e in
     taken-ready (s .args .value) (s .args .state) (w .with-reading .result) (is w) (checked e .intact .state) (counts e .room) (s .fits .value)
 
--- the place after the closing, from that before the answers
-abbrev closing : tie.After-answer-due-arg7 → tie.After-close-at-edge
+-- no query was registered after it
+origins-taken : (w : tie.After-with-reading) → Each (λ (q : Query). q .origin ≤ w .with-reading .result .count) (used (begun (w .before) .args .queries))
+origins-taken w =
+    let a = begun (w .before) .args in
+    taken-origins (a .value) (a .state) (w .with-reading .result) (is w) (used (a .queries)) (origins (w .before))
+
+-- the place where an edge was found, from that after the closing; the place after the closing, from that before the answers
+abbrev cut : tie.After-close-open → tie.Else1
+cut d = d .before .before .before .before .before .before .before
+
+abbrev closing : tie.After-answer-due-arg7 → tie.After-close-open
 closing c = c .before .before .before .before .before .before .before .before .before .before .before .before .before .before .before .before
 
 -- what is left after it
-left : (d : tie.After-close-at-edge) → Left (told (d .before) .with-reading .result) (d .close-at-edge .result)
-left d = closed-left _ _ _ _ _ _ (ready (told (d .before))) (d .close-at-edge .ensures)
+left : (d : tie.After-close-open) → Left (told (cut d) .with-reading .result) (d .close-open .result)
+left d = open-left (told (cut d) .with-reading .result .partial) _ _ _ _ _ (ready (told (cut d))) (d .close-open .ensures)
 
 enough-requires : tie.Need-enough-requires
 enough-requires c κs = search needs
@@ -107,17 +118,32 @@ enum-told c = search needs
 with-reading-requires : tie.Need-with-reading-requires
 with-reading-requires c κs = (checked c .intact .state, counts c .room)
 
-close-at-edge-requires : tie.Need-close-at-edge-requires
-close-at-edge-requires c κs =
-    let w = told c in
-    let e = w .before in
-    let q = begun e .args .queries in
-    (ready w, few e, limits e, taken-origins (begun e .args .value) (begun e .args .state) (w .with-reading .result) (is w) (used q) (origins e), checked e .long)
+any-edge-requires : tie.Need-any-edge-requires
+any-edge-requires c κs = (few (c .before), limits (c .before))
+
+accepted-reading-requires : tie.Need-accepted-reading-requires
+accepted-reading-requires c κs = search needs
+
+returns-2 : tie.Need-returns-2
+returns-2 c =
+    let t = c .before in
+    let w = t .before .before in
+    let s = begun (w .before) in
+    let n = taken-count (s .args .value) (s .args .state) (w .with-reading .result) (is w) in
+    accepted-reading (s .args .value) (s .args .answers .now) _ (given s) _ _ _ _ (checked (w .before)) (s .fits .value)
+    (uncut-taken (s .args .value) (s .args .answers .now) (given s) (w .with-reading .result) (is w)
+    (ap (λ (k : ℕ). any (edge k) (used (s .args .queries))) (sym n) ∙ sym (t .before .any-edge .ensures) ∙ not-true _ (t .if1 .taken)))
+    _ (c .accepted-reading .ensures)
+
+close-open-requires : tie.Need-close-open-requires
+close-open-requires c κs =
+    let w = told (c .before .before .before .before .before .before) in
+    (ready w, few (w .before), origins-taken w, checked (w .before) .long)
 
 answer-due-requires : tie.Need-answer-due-requires
 answer-due-requires c κs =
     let d = closing c in
-    let w = told (d .before) in
+    let w = told (cut d) in
     let e = w .before in
     let a = begun e .args in
     let l = left d in (
@@ -126,47 +152,51 @@ answer-due-requires c κs =
       l .minRing,
       few e,
       limits e,
-      subst (λ (k : ℕ). Each (λ (q : Query). q .origin ≤ k) (used (a .queries))) (sym (l .count))
-          (taken-origins (a .value) (a .state) (w .with-reading .result) (is w) (used (a .queries)) (origins e)),
+      subst (λ (k : ℕ). Each (λ (q : Query). q .origin ≤ k) (used (a .queries))) (sym (l .count)) (origins-taken w),
       due-fit (a .state .count) _ _ (used (a .queries)) (l .count ∙ taken-count (a .value) (a .state) (w .with-reading .result) (is w)) (counts e .answersFit),
-      closed-long _ _ _ _ _ _ (d .close-at-edge .ensures) (checked e .long),
+      closed-long (w .with-reading .result .partial) _ _ _ _ _ (d .close-open .ensures) (checked e .long),
     )
 
+accepted-reading-requires-2 : tie.Need-accepted-reading-requires-2
+accepted-reading-requires-2 c κs = search needs
+
 same-length : tie.Need-same-length
-same-length c = search needs
+same-length c = closing (c .before .before .before) .close-open .kept .1 .1 .0
 
 same-length-2 : tie.Need-same-length-2
-same-length-2 c = search needs
+same-length-2 c = closing (c .before .before .before) .close-open .kept .1 .1 .1 .0
 
 same-length-3 : tie.Need-same-length-3
-same-length-3 c = search needs
+same-length-3 c = closing (c .before .before .before) .close-open .kept .1 .1 .1 .1 .0
 
 same-length-4 : tie.Need-same-length-4
-same-length-4 c = search needs
+same-length-4 c = closing (c .before .before .before) .close-open .kept .1 .1 .1 .1 .1 .0
 
 same-length-5 : tie.Need-same-length-5
-same-length-5 c = search needs
+same-length-5 c = closing (c .before .before .before) .close-open .kept .1 .1 .1 .1 .1 .1 .0
 
 same-length-6 : tie.Need-same-length-6
-same-length-6 c = search needs
+same-length-6 c = closing (c .before .before .before) .close-open .kept .1 .1 .1 .1 .1 .1 .1 .0
 
 same-length-7 : tie.Need-same-length-7
-same-length-7 c = search needs
+same-length-7 c = c .before .before .answer-due .kept .1 .1 .1 .1 .1 .1 .1 .1 .0
 
-returns-2 : tie.Need-returns-2
-returns-2 c =
-    let f = c .before in
+returns-3 : tie.Need-returns-3
+returns-3 c =
+    let f = c .before .before in
     let d = closing (f .before) in
-    let w = told (d .before) in
-    let e = w .before in
-    let s = begun e in
-    accepted-reading (s .args .value) (s .args .answers .now) _ (given s) _ _ _ _ (checked e) (s .fits .value)
+    let t = cut d in
+    let w = told t in
+    let s = begun (w .before) in
+    accepted-reading (s .args .value) (s .args .answers .now) _ (given s) _ _ _ _ (checked (w .before)) (s .fits .value)
     (record {
-      closed = taken-closed (s .args .value) (s .args .state) (w .with-reading .result) (is w) (used (s .args .queries)) _ _ _ (d .close-at-edge .ensures);
+      closed = taken-closed (s .args .value) (s .args .state) (w .with-reading .result) (is w) (used (s .args .queries)) _ _ _
+          (closed-there _ _ _ _ _ (t .before .any-edge .ensures) _ _ (not-false _ (t .if1 .left)) (d .close-open .ensures));
       number = f .answer-due .ensures .1 .1;
       written = f .answer-due .ensures .1 .2;
       answers = f .answer-due .ensures .1 .3;
     })
+    _ (c .accepted-reading2 .ensures)
 
 pub reading-spec : {M : Type 1} → statement M
 reading-spec =
@@ -179,8 +209,12 @@ reading-spec =
     returns
     enum-told
     with-reading-requires
-    close-at-edge-requires
+    any-edge-requires
+    accepted-reading-requires
+    returns-2
+    close-open-requires
     answer-due-requires
+    accepted-reading-requires-2
     same-length
     same-length-2
     same-length-3
@@ -188,4 +222,4 @@ reading-spec =
     same-length-5
     same-length-6
     same-length-7
-    returns-2)
+    returns-3)

@@ -5,12 +5,12 @@ use borrow.Author.Needs.{needs}
 use Rattle.window.specs.Calls as calls
 use Rattle.window.proofs.Refusals.{register-passed}
 use Rattle.registry.specs.Records.{used}
-use Rattle.registry.proofs.Judged.{intact-few, intact-origins, used-count}
+use Rattle.registry.proofs.Intact.{intact-few, intact-origins, used-count}
 use Rattle.registry.proofs.Scans.{mapped-length}
 use Rattle.engine.specs.Machine.{Machine, machine}
 use Rattle.engine.specs.Tables.{tables}
 use Rattle.engine.proofs.Soundness.{sound-ready}
-use Rattle.engine.proofs.Accepting.{Passes, passes, joining, accepted-register}
+use Rattle.engine.proofs.Accepting.{Passes, all-pass, joining, accepted-register}
 use Rattle.engine.proofs.Refusing.{refused-reply}
 use Rattle.engine.proofs.calls.register.Statement.{statement}
 use Rattle.engine.proofs.calls.register.Tie as tie
@@ -35,7 +35,7 @@ begun c = began (c .before .before)
 checked : (c : tie.After-enum-told) → Passes (asked (begun c)) (given (begun c))
 checked c =
     let j = c .before .before in
-    passes (asked (began j)) (given (began j)) _ _ (j .before .enough .ensures) (j .judge-register .ensures) (c .enum-told .given .1)
+    all-pass (asked (began j)) (given (began j)) _ _ (j .before .enough .ensures) (j .judge-register .ensures) (c .enum-told .given .1)
 
 -- the place after the closing, from the end; and the one before it
 abbrev closing : tie.After-min-values → tie.After-close-open
@@ -91,22 +91,22 @@ joined-by-requires c κs =
     )
 
 same-length : tie.Need-same-length
-same-length c = search needs
+same-length c = closing (c .before .before) .close-open .kept .1 .1 .0
 
 same-length-2 : tie.Need-same-length-2
-same-length-2 c = search needs
+same-length-2 c = closing (c .before .before) .close-open .kept .1 .1 .1 .0
 
 same-length-3 : tie.Need-same-length-3
-same-length-3 c = search needs
+same-length-3 c = closing (c .before .before) .close-open .kept .1 .1 .1 .1 .0
 
 same-length-4 : tie.Need-same-length-4
-same-length-4 c = search needs
+same-length-4 c = closing (c .before .before) .close-open .kept .1 .1 .1 .1 .1 .0
 
 same-length-5 : tie.Need-same-length-5
-same-length-5 c = search needs
+same-length-5 c = closing (c .before .before) .close-open .kept .1 .1 .1 .1 .1 .1 .0
 
 same-length-6 : tie.Need-same-length-6
-same-length-6 c = search needs
+same-length-6 c = closing (c .before .before) .close-open .kept .1 .1 .1 .1 .1 .1 .1 .0
 
 returns-2 : tie.Need-returns-2
 returns-2 c =

@@ -2,7 +2,7 @@
 use mathlib.Core.Path.{refl}
 use borrow.Author.Needs.{needs}
 use Rattle.window.specs.Calls as calls
-use Rattle.engine.proofs.Accepting.{passes, accepted-totals}
+use Rattle.engine.proofs.Accepting.{all-pass, accepted-totals}
 use Rattle.engine.proofs.Refusing.{refused-call}
 use Rattle.engine.proofs.calls.totals.Statement.{statement}
 use Rattle.engine.proofs.calls.totals.Tie as tie
@@ -28,7 +28,7 @@ returns-2 : tie.Need-returns-2
 returns-2 c =
     let p = c .before .before in
     let j = p .before .before in
-    accepted-totals _ (passes calls.totals _ _ _ (j .before .enough .ensures) (j .judge .ensures) (p .enum-told .given .1))
+    accepted-totals _ (all-pass calls.totals _ _ _ (j .before .enough .ensures) (j .judge .ensures) (p .enum-told .given .1))
 
 pub totals-spec : {M : Type 1} → statement M
 totals-spec = tie.close (tie.spec enough-requires judge-requires enum-known-refusal returns enum-told returns-2)

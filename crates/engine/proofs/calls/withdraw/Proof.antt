@@ -5,11 +5,11 @@ use native.Mathlib.Omega.{arith}
 use borrow.Author.Needs.{needs}
 use Rattle.window.specs.Calls as calls
 use Rattle.registry.specs.Records.{used}
-use Rattle.registry.proofs.Judged.{intact-few, used-count}
+use Rattle.registry.proofs.Intact.{intact-few, used-count}
 use Rattle.registry.proofs.Scans.{mapped-length}
 use Rattle.engine.specs.Machine.{Machine, machine}
 use Rattle.engine.specs.Tables.{tables}
-use Rattle.engine.proofs.Accepting.{Passes, passes, accepted-withdraw}
+use Rattle.engine.proofs.Accepting.{Passes, all-pass, accepted-withdraw}
 use Rattle.engine.proofs.Refusing.{refused-reply}
 use Rattle.engine.proofs.calls.withdraw.Statement.{statement}
 use Rattle.engine.proofs.calls.withdraw.Tie as tie
@@ -27,7 +27,7 @@ began j = j .before .before .before .before .before
 checked : (c : tie.After-enum-told) → Passes (calls.withdraw (began (c .before .before) .args .number)) (given (began (c .before .before)))
 checked c =
     let j = c .before .before in
-    passes (calls.withdraw (began j .args .number)) (given (began j)) _ _ (j .before .enough .ensures) (j .judge-withdraw .ensures) (c .enum-told .given .1)
+    all-pass (calls.withdraw (began j .args .number)) (given (began j)) _ _ (j .before .enough .ensures) (j .judge-withdraw .ensures) (c .enum-told .given .1)
 
 -- so there are at most 32 queries
 few : (c : tie.After-enum-told) → began (c .before .before) .args .queries .count ≤ 32

@@ -3,7 +3,7 @@ use borrow.Author.Needs.{needs}
 use Rattle.window.specs.declared.refusal.Verdict.the-variants.{Passed}
 use Rattle.window.specs.Refusals.{firstRefusal, readingChecks}
 use Rattle.registry.specs.Records.{used}
-use Rattle.registry.proofs.Judged.{intact-few, intact-limits}
+use Rattle.registry.proofs.Intact.{intact-few, intact-limits}
 use Rattle.engine.proofs.Judging.{judged-first, judged-passed, judged-last}
 use Rattle.engine.proofs.checks.judge_reading.Statement.{statement}
 use Rattle.engine.proofs.checks.judge_reading.Tie as tie

@@ -1,3 +1,4 @@
+-- `greater` meets its contract, by the test of each order. Assumes nothing.
 use borrow.Author.Needs.{needs}
 use lib.Signed.{leZ}
 use mir.Facts.{toZ-ofZ}

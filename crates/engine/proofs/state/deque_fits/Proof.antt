@@ -1,3 +1,4 @@
+-- `deque_fits` meets its contract: the ring, and then the total. Assumes nothing.
 use mathlib.Core.Path.{sym, _∙_}
 use mathlib.Core.Bool.{false≢true}
 use borrow.Author.Needs.{needs}

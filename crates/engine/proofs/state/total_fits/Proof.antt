@@ -1,3 +1,4 @@
+-- `total_fits` meets its contract: nothing is subtracted where P is 0. Assumes nothing.
 use Prim.Native.Nat.{_*_, _-_}
 use native.Mathlib.Omega.{arith}
 use borrow.Author.Tests.{eqb-true, leb-true, le-leb, eq-eqb}

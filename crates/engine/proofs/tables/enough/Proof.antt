@@ -1,3 +1,4 @@
+-- `enough` meets its contract: check 1, from the last table to the first. Assumes nothing.
 use borrow.Author.Needs.{needs}
 use Rattle.engine.specs.Tables.{enough}
 use Rattle.engine.proofs.tables.enough.Statement.{statement}

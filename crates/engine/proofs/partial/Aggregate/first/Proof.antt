@@ -1,5 +1,6 @@
+-- `Aggregate::first` meets its contract: the sum is the reading, widened. Assumes nothing.
 use mir.Facts.{toZ-ofZ}
-use Rattle.engine.proofs.Widened.{wide-fits, wide-is}
+use Rattle.ints.proofs.Widened.{wide-fits, wide-is}
 use Rattle.engine.proofs.Aggregates.{same-aggregate}
 use Rattle.engine.proofs.partial.Aggregate.first.Statement.{statement}
 use Rattle.engine.proofs.partial.Aggregate.first.Tie as tie

@@ -1,3 +1,4 @@
+-- `Aggregate::fits` meets its contract: one exit for each thing that is asked. Assumes nothing.
 use mathlib.Core.Bool.{false≢true}
 use native.Mathlib.Omega.{arith}
 use borrow.Author.Needs.{needs}

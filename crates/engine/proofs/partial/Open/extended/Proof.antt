@@ -1,3 +1,4 @@
+-- `Open::extended` meets its contract, case by case. Assumes nothing.
 use mathlib.Core.Path.{ap, _∙_}
 use borrow.Author.Needs.{needs}
 use mir.Facts.{toZ-ofZ}

@@ -1,3 +1,4 @@
+-- `Open::fits` meets its contract, case by case. Assumes nothing.
 use mathlib.Core.Path.{refl}
 use borrow.Author.Needs.{needs}
 use Rattle.engine.proofs.partial.Open.fits.Statement.{statement}

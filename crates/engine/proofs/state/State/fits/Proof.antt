@@ -1,3 +1,4 @@
+-- `State::fits` meets its contract: one exit for each thing that is asked. Assumes nothing.
 use mathlib.Core.Path.{_≡_, sym, _∙_}
 use mathlib.Core.Bool.{Bool, true, not, false≢true}
 use native.Mathlib.Omega.{arith}

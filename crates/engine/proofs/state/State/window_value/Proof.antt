@@ -1,3 +1,4 @@
+-- `State::window_value` meets its contract, kind by kind. Assumes nothing.
 use mathlib.Core.Path.{ap, _∙_}
 use native.Mathlib.Omega.{arith}
 use borrow.Author.Needs.{needs}
@@ -6,7 +7,7 @@ use mir.Syntax.{w64}
 use mir.Facts.{toZ-ofZ}
 use Rattle.ints.proofs.Sizes.{most-is}
 use Rattle.engine.specs.Tables.{Tables, tables}
-use Rattle.engine.proofs.Widened.{wide-fits, wide-is}
+use Rattle.ints.proofs.Widened.{wide-fits, wide-is}
 use Rattle.engine.proofs.Boards.{Long, long-each}
 use Rattle.engine.proofs.Places.{value-sum, value-count, value-maximum, value-minimum}
 use Rattle.engine.proofs.state.State.window_value.Statement.{statement}

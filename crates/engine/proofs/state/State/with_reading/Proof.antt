@@ -1,3 +1,4 @@
+-- `State::with_reading` meets its contract: what is open is small enough for a reading to join. Assumes nothing.
 use mathlib.Core.Path.{ap, _∙_}
 use borrow.Author.Needs.{needs}
 use mir.Facts.{toZ-ofZ}

@@ -5,7 +5,7 @@ use native.Mathlib.Omega.{arith}
 use lib.ListN.{length}
 use Rattle.registry.specs.Records.{recordLimit, used}
 use Rattle.registry.proofs.Scans.{mapped-length}
-use Rattle.registry.proofs.Judged.{used-count}
+use Rattle.registry.proofs.Intact.{used-count}
 use Rattle.registry.proofs.Verdicts.{register-field, register-taken, register-full, register-joins}
 use Rattle.registry.proofs.queries.Queries.check_register.Statement.{statement}
 use Rattle.registry.proofs.queries.Queries.check_register.Tie as tie

@@ -50,7 +50,7 @@ pub intact-origins : (n c : ℕ) (qs : List Query) → damaged n c qs ≡ false 
 intact-origins n c qs h = sound-each (λ (q : Query). q .origin ≤ n) n (sound-origin n) qs (intact-sound n c qs h)
 
 -- it has at most 32 of them
-pub intact-few : (n c : ℕ) (qs : List Query) → damaged n c qs ≡ false → c ≤ 32
+pub intact-few : (n c : ℕ) (qs : List Query) → damaged n c qs ≡ false → c ≤ recordLimit
 unfolding damaged
 intact-few n c qs h = ltb-false queryLimit c (not-left (ltb queryLimit c) (any (brokenRecord n) qs || sharedNumber qs) h)
 
