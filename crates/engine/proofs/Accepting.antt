@@ -59,7 +59,11 @@ all-pass c m long w same j e =
     let p = judged-passed long (m .state) (m .queries) (verdictOf c (m .state .count) (used (m .queries))) w j e in
     record { long = sym same ∙ p .0; intact = p .1; own = p .2 }
 
--- then the call keeps its promise where its outcome, list and state are those of the accepted step
+-- then the model's step is the accepted one
+step-accepted : (c : Call) (m : Machine) → Passes c m → (s : model.State) → Represents s m → step s c ≡ acceptedStep s c
+step-accepted c m passes s rep = step-judged s c ∙ ap (λ (x : Verdict). judged x s (acceptedStep s c)) (sym (same-verdict c s m rep) ∙ passes .own)
+
+-- and the call keeps its promise where its outcome, list and state are those of the accepted step
 accepted-call : (c : Call) (m : Machine) (ns : List ℕ) (given : List Answer) (m′ : Machine)
     → Passes c m
     → OfReading IsReading c → TablesKept (m .tables) (m′ .tables)
@@ -71,21 +75,18 @@ accepted-call c m ns given m′ passes small kept lists state outcome =
     record {
       short = λ k. absurd (true≢false (sym (passes .long) ∙ k));
       broken = λ k d. absurd (true≢false (sym d ∙ passes .intact .list));
-      agrees = λ s rep. outcome s rep ∙ sym (ap (λ (x : Stepped). x .outcome) (step-accepted s rep));
+      agrees = λ s rep. outcome s rep ∙ sym (ap (λ (x : Stepped). x .outcome) (step-accepted c m passes s rep));
       represents = λ s rep. record {
         invariant = step-invariant s c (rep .invariant);
         readings = step-readings IsReading s c small (rep .readings);
         long = kept-long (m .tables) (m′ .tables) kept (passes .long);
-        queries = subst (λ (x : Stepped). ListIs (x .state) (m′ .queries)) (sym (step-accepted s rep)) (lists s rep);
-        state = subst (λ (x : Stepped). StateIs (x .state) (m′ .state) (m′ .tables)) (sym (step-accepted s rep)) (state s rep);
+        queries = subst (λ (x : Stepped). ListIs (x .state) (m′ .queries)) (sym (step-accepted c m passes s rep)) (lists s rep);
+        state = subst (λ (x : Stepped). StateIs (x .state) (m′ .state) (m′ .tables)) (sym (step-accepted c m passes s rep)) (state s rep);
       };
       unchanged = λ k j. accepted-refused ns given k j;
       own = λ k j. accepted-refused ns given k j;
       kept = kept;
     }
-  where
-    step-accepted : (s : model.State) → Represents s m → step s c ≡ acceptedStep s c
-    step-accepted s rep = step-judged s c ∙ ap (λ (x : Verdict). judged x s (acceptedStep s c)) (sym (same-verdict c s m rep) ∙ passes .own)
 
 -- the query that a registration brings to the engine
 abbrev pub joining : (number kind range slide origin : ℕ) → Query
@@ -215,15 +216,11 @@ accepted-reading v before after m k given st′ t′ passed small took reply ret
         (subst (λ (n : ℕ). ClosedWhere (any (edge (n + 1)) (s .queries)) (horizon (n + 1) (s .queries)) (withReading v (m .state)) (m .tables) st′ t′) (rep .state .count)
         (subst (λ (qs : List Query). ClosedWhere (any (edge (m .state .count + 1)) qs) (horizon (m .state .count + 1) qs) (withReading v (m .state)) (m .tables) st′ t′) (rep .queries .used) (took .closed)))
 
-    stepped : (s : model.State) → Represents s m → (step s c) .state ≡ afterReading s v
-    stepped s rep =
-        ap (λ (x : Stepped). x .state) (step-judged s c ∙ ap (λ (x : Verdict). judged x s (acceptedStep s c)) (sym (same-verdict c s m rep) ∙ passed .own))
-
     same-answers : (s : model.State) → Represents s m → given ≡ answers (afterReading s v)
     same-answers s rep =
         took .answers (in-order (afterReading s v) st′ t′ (is s rep))
         ∙ ap (λ (qs : List Query). map (answerFrom st′ t′) (dueAt (st′ .count) qs)) (rep .queries .used ∙ sym (reading-queries s v))
-        ∙ answers-are (afterReading s v) st′ t′ (subst Invariant (stepped s rep) (step-invariant s c (rep .invariant))) (is s rep)
+        ∙ answers-are (afterReading s v) st′ t′ (subst (λ (x : Stepped). Invariant (x .state)) (step-accepted c m passed s rep) (step-invariant s c (rep .invariant))) (is s rep)
 
 -- ---- start
 

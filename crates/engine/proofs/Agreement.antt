@@ -10,7 +10,8 @@ use Rattle.window.proofs.Bounds.{bounded}
 use Rattle.window.proofs.Steps.{refused-from-three}
 use Rattle.engine.specs.Machine.{Machine, Represents}
 use Rattle.engine.specs.Contracts.{Ensures}
-use Rattle.engine.specs.Demand3.{Performs, Performed, ended, called, Fresh, Demand3, FromStart, NeverDamaged}
+use Rattle.engine.specs.Demand3.{Performs, Performed, ended, called, Fresh, Demand3, FromStart, BoardLive, NeverDamaged}
+use Rattle.engine.proofs.Answering.{board-live}
 
 -- one call on what represents a state of the model: the outcome is the model's, and what is left represents the model's next state
 record Follows (s : model.State) (c : Call) (o : Outcome) (m′ : Machine) : Type 0 where
@@ -68,6 +69,10 @@ demand-3 fresh f calls outcomes m p =
 -- what came from a start represents the model's state
 pub from-start : FromStart
 from-start fresh f calls outcomes m p = (from-start-outcomes fresh f calls outcomes m p) .1
+
+-- so its tables hold what is live, and what stands of it
+pub from-start-live : BoardLive
+from-start-live fresh f calls outcomes m p = board-live (reached calls) (m .state) (m .tables) (from-start fresh f calls outcomes m p .state .board)
 
 -- a state and tables that came from a start are never given 1 or 2
 pub never-damaged : NeverDamaged

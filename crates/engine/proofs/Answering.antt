@@ -11,7 +11,7 @@ use lib.Signed.{leZ}
 use lib.ListN.{length}
 use Rattle.window.specs.declared.query.Query.{Query}
 use Rattle.window.specs.Lists.{Each}
-use Rattle.window.specs.Orders.{Order, geZ, sum, extreme, maximum, minimum}
+use Rattle.window.specs.Orders.{Order, geZ, sum, extreme}
 use Rattle.window.specs.Queries.{sumKind, countKind, maximumKind, due, windowStart, windowCount, horizon}
 use Rattle.window.specs.Partials.{Entry, entries, partialsFrom, valueOf}
 use Rattle.window.specs.Standing.{standing, frontOf, evicted}
@@ -30,7 +30,7 @@ use Rattle.deque.proofs.Bridge.{retained-sorted, retained-evicted, standing-ret
 use Rattle.engine.specs.declared.state.State.{State}
 use Rattle.engine.specs.Tables.{Tables}
 use Rattle.engine.specs.Answers.{answerWith, InOrder, valueFrom, answerFrom}
-use Rattle.engine.specs.Machine.{StandsOn, Holds, StateIs}
+use Rattle.engine.specs.Machine.{StandsOn, Holds, HoldsLive, StateIs}
 
 module _ (s : model.State) (st : State) (t : Tables) where
   -- ---- the rings are in order
@@ -63,19 +63,14 @@ module _ (s : model.State) (st : State) (t : Tables) where
   -- ---- what is live on the board
 
   -- eviction at the horizon leaves exactly the live closed partials, with starts and sums, and for each order those that stand of them
-  pub board-live : Holds s st t
-      → (evicted (horizon (count s) (s .queries)) (partialsOf (t .starts) (t .sums) (st .sums))
-      ≡ entries sum (s .readings) (partialsFrom (horizon (count s) (s .queries)) (s .closed)))
-      × (evicted (horizon (count s) (s .queries)) (entriesOf (t .maxStarts) (t .maxValues) (st .maxima .ring))
-      ≡ standing leZ (entries maximum (s .readings) (partialsFrom (horizon (count s) (s .queries)) (s .closed))))
-      × (evicted (horizon (count s) (s .queries)) (entriesOf (t .minStarts) (t .minValues) (st .minima .ring))
-      ≡ standing geZ (entries minimum (s .readings) (partialsFrom (horizon (count s) (s .queries)) (s .closed))))
+  pub board-live : Holds s st t → HoldsLive s st t
   board-live b =
-      let h : ℕ = horizon (count s) (s .queries) in (
-        ap (evicted h) (b .sums) ∙ retained-evicted sum (s .readings) h (s .closed) (b .held) (count s) (b .retained),
-        deque-live b leZ (t .maxStarts) (t .maxValues) (st .maxima) (b .maxima),
-        deque-live b geZ (t .minStarts) (t .minValues) (st .minima) (b .minima),
-      )
+      let h : ℕ = horizon (count s) (s .queries) in
+      record {
+        sums = ap (evicted h) (b .sums) ∙ retained-evicted sum (s .readings) h (s .closed) (b .held) (count s) (b .retained);
+        maxima = deque-live b leZ (t .maxStarts) (t .maxValues) (st .maxima) (b .maxima);
+        minima = deque-live b geZ (t .minStarts) (t .minValues) (st .minima) (b .minima);
+      }
 
   -- ---- answers
 

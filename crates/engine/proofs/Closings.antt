@@ -2,7 +2,7 @@
 -- Assumes nothing.
 use Prim.Native.Nat.{ℕ, _+_, _≤_, _<_, _^_}
 use mathlib.Core.Path.{_≡_, refl, sym, _∙_, subst}
-use mathlib.Core.Bool.{Bool, true, false}
+use mathlib.Core.Bool.{Bool, true}
 use mathlib.Core.List.{List, [], _∷_, _++_}
 use native.Mathlib.Omega.{arith}
 use lib.IntN.{ℤ}
@@ -63,14 +63,8 @@ module _ (o : Open) (h : ℕ) (st : State) (t : Tables) where
   holding-closed a found st′ t′ e i c =
       subst (λ (x : Open). OpenClosed x h st t st′ t′) (sym e) (subst (λ (n : ℕ). Closed a n st t st′ t′) i c)
 
--- where the test holds, what is open closes, and otherwise nothing changes
-module _ (b found : Bool) (h : ℕ) (st : State) (t : Tables) (same : found ≡ b) where
-  -- it holds: what is open closes
-  pub closed-there : (st′ : State) (t′ : Tables) → found ≡ true → OpenClosed (st .partial) h st t st′ t′ → ClosedWhere b h st t st′ t′
-  unfolding ClosedWhere
-  closed-there st′ t′ e c = subst (λ (x : Bool). ClosedWhere x h st t st′ t′) (sym e ∙ same) c
-
-  -- it does not: nothing changes
-  pub not-closed : found ≡ false → ClosedWhere b h st t st t
-  unfolding ClosedWhere
-  not-closed e = subst (λ (x : Bool). ClosedWhere x h st t st t) (sym e ∙ same) (refl, refl)
+-- where the test holds, what is open closes
+pub closed-there : (b found : Bool) (h : ℕ) (st : State) (t : Tables) → found ≡ b → (st′ : State) (t′ : Tables) → found ≡ true → OpenClosed (st .partial) h st t st′ t′
+    → ClosedWhere b h st t st′ t′
+unfolding ClosedWhere
+closed-there b found h st t same st′ t′ e c = subst (λ (x : Bool). ClosedWhere x h st t st′ t′) (sym e ∙ same) c

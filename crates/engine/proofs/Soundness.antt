@@ -61,32 +61,32 @@ module _ (st : State) (ok : Sound st) where
   holding-fits : (a : Aggregate) → st .partial ≡ Holding a → FitsAggregate (st .count) (st .closed) a
   holding-fits a e = subst (FitsOpen (st .count) (st .closed)) e (ok .partial)
 
-  -- it is ready for a closing
-  pub sound-ready : st .count ≤ countLimit → Ready st
-  sound-ready l =
+  -- it is ready for a closing with this open, at any count, where a partial that holds readings is small and one more can be counted
+  ready-with : (n : ℕ) (o : Open) → st .count ≤ countLimit → ((a : Aggregate) → o ≡ Holding a → Small sumLimit (a .sum) × (st .closed < countLimit))
+      → Ready (record { count = n; closed = st .closed; partial = o; sums = st .sums; maxima = st .maxima; minima = st .minima })
+  ready-with n o l p =
       record {
         sums = ok .sums;
         maxRing = ok .maxRing;
         maxTotal = omega (arith, ok .maxTotal, ok .early);
         minRing = ok .minRing;
         minTotal = omega (arith, ok .minTotal, ok .early);
-        partial = λ a e.
-            let f : FitsAggregate (st .count) (st .closed) a = holding-fits a e in
-            (small-more sizeLimit sumLimit (a .sum) (omega arith) (holding-small (st .count) (st .closed) (st .partial) a e (ok .partial)), omega (arith, f .after, f .holds));
+        partial = p;
       }
 
-  -- and so it is with one reading more
+  -- so it is as it stands
+  pub sound-ready : st .count ≤ countLimit → Ready st
+  sound-ready l =
+      ready-with (st .count) (st .partial) l
+      (λ a e.
+      let f : FitsAggregate (st .count) (st .closed) a = holding-fits a e in
+      (small-more sizeLimit sumLimit (a .sum) (omega arith) (holding-small (st .count) (st .closed) (st .partial) a e (ok .partial)), omega (arith, f .after, f .holds)))
+
+  -- and with one reading more
   pub sound-taken : (v : ℤ) → st .count < countLimit → IsReading v → Ready (withReading v st)
   sound-taken v l r =
-      record {
-        sums = ok .sums;
-        maxRing = ok .maxRing;
-        maxTotal = omega (arith, ok .maxTotal, ok .early);
-        minRing = ok .minRing;
-        minTotal = omega (arith, ok .minTotal, ok .early);
-        partial = λ a e.
-            (subst (SmallOpen sumLimit) e (with-small (st .count) (st .closed) v r (st .partial) (ok .partial)), omega (arith, ok .early));
-      }
+      ready-with (st .count + 1) (openWith (st .count) v (st .partial)) (omega (arith, l))
+      (λ a e. (subst (SmallOpen sumLimit) e (with-small (st .count) (st .closed) v r (st .partial) (ok .partial)), omega (arith, ok .early, l)))
 
 -- ---- what represents the model passes check 2
 

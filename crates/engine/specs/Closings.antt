@@ -56,7 +56,7 @@ OpenClosed Nothing h st t st′ t′ = (st′ ≡ st) × (t′ ≡ t)
 OpenClosed Empty h st t st′ t′ = (st′ ≡ st) × (t′ ≡ t)
 OpenClosed (Holding a) h st t st′ t′ = Closed a h st t st′ t′
 
--- the same, where the test holds
+-- the same, where the test holds; only laws use it
 unfoldable pub ClosedWhere : Bool → ℕ → State → Tables → State → Tables → Type 0
 ClosedWhere true h st t st′ t′ = OpenClosed (st .partial) h st t st′ t′
 ClosedWhere false h st t st′ t′ = (st′ ≡ st) × (t′ ≡ t)

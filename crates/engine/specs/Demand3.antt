@@ -12,7 +12,7 @@ use Rattle.window.specs.Model.{count, initial, totalsOf, Ran, run, reached}
 use Rattle.registry.specs.Records.{used, Tidy}
 use Rattle.engine.specs.Tables.{longEnough}
 use Rattle.engine.specs.declared.calls.Answered.{Answered}
-use Rattle.engine.specs.Machine.{Machine, Represents}
+use Rattle.engine.specs.Machine.{Machine, HoldsLive, Represents}
 use Rattle.engine.specs.Outcomes.{readingOutcome}
 use Rattle.engine.specs.Contracts.{Ensures, ReadingEnsures, StartEnsures}
 
@@ -76,6 +76,11 @@ Demand3 = (fresh : Machine) → Fresh fresh → (calls : List Call) (outcomes : 
 abbrev pub FromStart : Type 0
 FromStart = (fresh : Machine) → Fresh fresh → (calls : List Call) (outcomes : List Outcome) (m : Machine)
     → Performed fresh calls outcomes m → Represents (reached calls) m
+
+-- its tables hold what is live, and what stands of it
+abbrev pub BoardLive : Type 0
+BoardLive = (fresh : Machine) → Fresh fresh → (calls : List Call) (outcomes : List Outcome) (m : Machine)
+    → Performed fresh calls outcomes m → HoldsLive (reached calls) (m .state) (m .tables)
 
 -- and no call on it is refused with 1 or 2
 abbrev pub NeverDamaged : Type 0
