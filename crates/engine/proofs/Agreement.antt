@@ -33,7 +33,7 @@ follows s (reading v places) m o m′ e rep =
 follows s totals m o m′ e rep = ensured s totals m o m′ e rep
 
 -- a list of calls on what represents s
-performed : (s : model.State) {m m′ : Machine} {cs : List Call} {os : List Outcome} → Represents s m → Performed m cs os m′
+performed : (s : model.State) {m m′ : Machine} {cs : List Call} {os : List Outcome} → Represents s m → Performed Performs m cs os m′
     → (os ≡ (run s cs) .outcomes) × Represents ((run s cs) .state) m′
 performed s rep ended = (refl, rep)
 performed s {m} rep (called {m′ = n} {c = c} {o = o} e rest) =
@@ -42,7 +42,7 @@ performed s {m} rep (called {m′ = n} {c = c} {o = o} e rest) =
     (ap₂ (λ (x : Outcome) (xs : List Outcome). x ∷ xs) (f .agrees) (k .0), k .1)
 
 -- a list of calls from fresh, on both sides
-from-start-outcomes : (fresh : Machine) → Fresh fresh → (calls : List Call) (outcomes : List Outcome) (m : Machine) → Performed fresh calls outcomes m
+from-start-outcomes : (fresh : Machine) → Fresh fresh → (calls : List Call) (outcomes : List Outcome) (m : Machine) → Performed Performs fresh calls outcomes m
     → (outcomes ≡ (run initial calls) .outcomes) × Represents (reached calls) m
 from-start-outcomes fresh f calls outcomes m p = performed initial (f .started .represents (f .long)) p
 

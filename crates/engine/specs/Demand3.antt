@@ -16,30 +16,34 @@ use Rattle.engine.specs.Machine.{Machine, HoldsLive, Represents}
 use Rattle.engine.specs.Outcomes.{readingOutcome}
 use Rattle.engine.specs.Contracts.{Ensures, ReadingEnsures, StartEnsures}
 
--- a reading is given an answer table of so many places, with any content; its answers are read from the places as it leaves them
-pub record Reads (v : ℤ) (places : ℕ) (m : Machine) (o : Outcome) (m′ : Machine) : Type 0 where
+-- ---- calls on a machine, and on whatever else a caller holds (`M`)
+
+-- a reading is given an answer table of so many places, with any content; its answers are read from the places as it leaves them. `promised` says what it promises
+pub record Reads {M : Type 0} (promised : ℤ → List ℤ → List ℤ → M → Outcome → M → Type 0) (v : ℤ) (places : ℕ) (m : M) (o : Outcome) (m′ : M) : Type 0 where
   pub before : List ℤ
   pub after : List ℤ
   pub returned : Answered
   pub long : length before ≡ places
   pub read : o ≡ readingOutcome returned after
-  pub ensures : ReadingEnsures v before after m o m′
+  pub ensures : promised v before after m o m′
 
--- the engine's call c on m came to o and left m′: exactly what the contracts of the five calls say
+-- a list of calls, each on what the call before left, with the outcome of each. `performs` says what one call promises
+pub data Performed {M : Type 0} (performs : Call → M → Outcome → M → Type 0) : M → List Call → List Outcome → M → Type 0 where
+  -- no call leaves all as it is
+  ended : {m : M} → Performed performs m [] [] m
+  -- a first call, and then the others on what it left
+  called : {m m′ m″ : M} {c : Call} {cs : List Call} {o : Outcome} {os : List Outcome}
+      → performs c m o m′ → Performed performs m′ cs os m″ → Performed performs m (c ∷ cs) (o ∷ os) m″
+
+-- ---- the engine's
+
+-- the engine's call c on m came to o and left m′: what the contracts of the five calls say of it
 abbrev pub Performs : Call → Machine → Outcome → Machine → Type 0
 Performs start m o m′ = StartEnsures m o m′
 Performs (register number kind range slide) m o m′ = Ensures (register number kind range slide) m o m′
 Performs (withdraw number) m o m′ = Ensures (withdraw number) m o m′
-Performs (reading v places) m o m′ = Reads v places m o m′
+Performs (reading v places) m o m′ = Reads ReadingEnsures v places m o m′
 Performs totals m o m′ = Ensures totals m o m′
-
--- a list of calls, each on what the call before left, with the outcome of each
-pub data Performed : Machine → List Call → List Outcome → Machine → Type 0 where
-  -- no call leaves all as it is
-  ended : {m : Machine} → Performed m [] [] m
-  -- a first call, and then the others on what it left
-  called : {m m′ m″ : Machine} {c : Call} {cs : List Call} {o : Outcome} {os : List Outcome}
-      → Performs c m o m′ → Performed m′ cs os m″ → Performed m (c ∷ cs) (o ∷ os) m″
 
 -- a fresh engine: one just started on tables that pass check 1, whatever they held
 pub record Fresh (m : Machine) : Type 0 where
@@ -68,21 +72,21 @@ pub record AgreesWith (r : Ran) (os : List Outcome) (m : Machine) : Type 0 where
 -- the claim about the whole list
 abbrev pub Demand3 : Type 0
 Demand3 = (fresh : Machine) → Fresh fresh → (calls : List Call) (outcomes : List Outcome) (m : Machine)
-    → Performed fresh calls outcomes m → AgreesWith (run initial calls) outcomes m
+    → Performed Performs fresh calls outcomes m → AgreesWith (run initial calls) outcomes m
 
 -- ---- beside it
 
 -- what came from a start by these calls represents the state that the model comes to by them
 abbrev pub FromStart : Type 0
 FromStart = (fresh : Machine) → Fresh fresh → (calls : List Call) (outcomes : List Outcome) (m : Machine)
-    → Performed fresh calls outcomes m → Represents (reached calls) m
+    → Performed Performs fresh calls outcomes m → Represents (reached calls) m
 
 -- its tables hold what is live, and what stands of it
 abbrev pub BoardLive : Type 0
 BoardLive = (fresh : Machine) → Fresh fresh → (calls : List Call) (outcomes : List Outcome) (m : Machine)
-    → Performed fresh calls outcomes m → HoldsLive (reached calls) (m .state) (m .tables)
+    → Performed Performs fresh calls outcomes m → HoldsLive (reached calls) (m .state) (m .tables)
 
 -- and no call on it is refused with 1 or 2
 abbrev pub NeverDamaged : Type 0
 NeverDamaged = (fresh : Machine) → Fresh fresh → (calls : List Call) (outcomes : List Outcome) (m : Machine)
-    → Performed fresh calls outcomes m → (c : Call) (o : Outcome) (m′ : Machine) → Performs c m o m′ → (k : ℕ) → o ≡ refused k → 3 ≤ k
+    → Performed Performs fresh calls outcomes m → (c : Call) (o : Outcome) (m′ : Machine) → Performs c m o m′ → (k : ℕ) → o ≡ refused k → 3 ≤ k

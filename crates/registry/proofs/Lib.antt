@@ -3,3 +3,4 @@ pub mod Scans
 pub mod Joining
 pub mod Damage
 pub mod Verdicts
+pub mod Finding

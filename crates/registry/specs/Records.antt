@@ -1,14 +1,17 @@
 -- The list of registered queries by value: 32 records, of which the first ones are used.
 -- Assumes nothing.
-use Prim.Native.Nat.{ℕ, _-_}
+use Prim.Native.Nat.{ℕ, _+_, _-_}
 use mathlib.Core.Path.{_≡_}
-use mathlib.Core.Bool.{Bool, false, _||_}
+use mathlib.Core.Bool.{Bool, false, _||_, cond}
 use mathlib.Core.List.{List, [], _∷_, _++_, map}
 use lib.Dec.{eqb}
 use lib.ListN.{take, replicate}
 use Rattle.window.specs.declared.query.Query.{Query}
 use Rattle.window.specs.Lists.{any}
 use Rattle.window.specs.Queries.{queryLimit}
+use Rattle.window.specs.Refusals.{hasNumber}
+use Rattle.registry.specs.declared.queries.Found.{Found}
+use Rattle.registry.specs.declared.queries.Found.the-variants.{At, Absent}
 use Rattle.registry.specs.declared.queries.Queries.{Queries}
 
 -- the list has 32 records, one for each query that can be registered
@@ -26,6 +29,18 @@ used l = take (l .count) (l .records)
 -- the unused records are all 0
 abbrev pub Tidy : Queries → Type 0
 Tidy l = l .records ≡ used l ++ replicate (recordLimit - l .count) unused
+
+-- ---- the place of a query
+
+-- so many places later
+abbrev pub laterBy : ℕ → Found → Found
+laterBy k (At i) = At (k + i)
+laterBy k Absent = Absent
+
+-- where the first query with this number stands
+abbrev pub placeOf : ℕ → List Query → Found
+placeOf number [] = Absent
+placeOf number (q ∷ qs) = cond (hasNumber number q) (At 0) (laterBy 1 (placeOf number qs))
 
 -- ---- the test for a repeated number, on plain numbers
 

@@ -4,9 +4,10 @@ ghost use mathlib.Core.Path.{_≡_};
 ghost use mathlib.Core.Bool.{not};
 ghost use mathlib.Core.List.{[], _∷_, _++_};
 ghost use Prim.Native.Nat.{_+_, _<_, _≤_};
+ghost use lib.ListN.{set};
 ghost use Rattle.window.specs.Lists.{filter};
 ghost use Rattle.window.specs.Refusals.{isRegistered, hasNumber};
-ghost use Rattle.registry.specs.Records.{recordLimit, unused, used, Tidy};
+ghost use Rattle.registry.specs.Records.{recordLimit, unused, used, Tidy, placeOf};
 
 // How many records the list has.
 pub const RECORDS: usize = 32;
@@ -18,8 +19,15 @@ pub struct Queries {
     pub records: [Query; 32],
 }
 
+// Where a query stands in the list.
+pub enum Found {
+    // At this place, from 0.
+    At(usize),
+    Absent,
+}
+
 // A record that is not used: all 0.
-fn unused() -> Query
+pub fn unused() -> Query
     ensures { λ r. ⌜ r ≡ unused ⌝ }
 {
     Query {
@@ -42,20 +50,31 @@ impl Queries {
         Queries { count: 0, records }
     }
 
-    // Whether a query with this number is registered.
-    pub fn holds(self, number: u32) -> bool
+    // The place of the query with this number.
+    pub fn find(self, number: u32) -> Found
         requires { ⌜ self .count ≤ recordLimit ⌝ }
-        ensures { λ r. ⌜ r ≡ isRegistered number (used self) ⌝ }
+        ensures { λ r. ⌜ r ≡ placeOf number (used self) ⌝ }
     {
         let mut i = 0;
         while i < self.count {
             let q = self.records[i];
             if number == q.number {
-                return true;
+                return Found::At(i);
             }
             i += 1;
         }
-        false
+        Found::Absent
+    }
+
+    // Whether a query with this number is registered.
+    pub fn holds(self, number: u32) -> bool
+        requires { ⌜ self .count ≤ recordLimit ⌝ }
+        ensures { λ r. ⌜ r ≡ isRegistered number (used self) ⌝ }
+    {
+        match self.find(number) {
+            Found::At(_) => true,
+            Found::Absent => false,
+        }
     }
 
     // With this query at the end.
@@ -64,6 +83,7 @@ impl Queries {
         ensures few { λ r. ⌜ r .count ≡ self .count + 1 ⌝ }
         ensures used { λ r. ⌜ used r ≡ used self ++ (q ∷ []) ⌝ }
         ensures tidy { λ r. ⌜ (Tidy self → Tidy r) ⌝ }
+        ensures placed { λ r. ⌜ r .records ≡ set (self .records) (self .count) q ⌝ }
     {
         let count = self.count;
         let mut records = self.records;

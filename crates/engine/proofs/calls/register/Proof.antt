@@ -115,7 +115,7 @@ returns-2 c =
     let s = begun e in
     accepted-register (s .args .number) (s .args .kind) (s .args .range) (s .args .slide) (given s) (d .close-open .result) _ _ _ (checked e)
     (d .close-open .ensures)
-    (c .joined-by .ensures .0) (c .joined-by .ensures .1 .0) (c .joined-by .ensures .1 .1) (c .before .with-partial .ensures)
+    (c .joined-by .ensures .0) (c .joined-by .ensures .1 .0) (c .joined-by .ensures .1 .1 .0) (c .before .with-partial .ensures)
 
 pub register-spec : {M : Type 1} → statement M
 register-spec =

@@ -1,70 +1,29 @@
--- `Queries::holds` meets its contract. The loop's invariant: the number is registered where it is so among the records from i on.
--- Assumes nothing.
-use mathlib.Core.Path.{_≡_, refl, sym, _∙_}
-use Prim.Native.Nat.{_-_, _≤_}
-use native.Mathlib.Omega.{arith}
-use lib.ListN.{length, drop}
-use borrow.Author.Tests.{eq-eqb, ne-eqb}
-use Rattle.window.specs.Refusals.{hasNumber, isRegistered}
-use Rattle.registry.specs.Records.{recordLimit, unused, used}
-use Rattle.registry.proofs.Scans.{mapped-length, any-found, any-next, any-ended}
+-- `Queries::holds` meets its contract: a query is registered where it has a place. Assumes nothing.
+use mathlib.Core.Path.{sym, ap, _∙_}
+use borrow.Author.Needs.{needs}
+use Rattle.registry.specs.Records.{used}
+use Rattle.registry.proofs.Finding.{isAt, registered-at}
 use Rattle.registry.proofs.queries.Queries.holds.Statement.{statement}
 use Rattle.registry.proofs.queries.Queries.holds.Tie as tie
 
-abbrev Inv-loop : tie.InvT-loop
-Inv-loop number self i₀ i = (i ≤ self .count) × (isRegistered number (used self) ≡ isRegistered number (drop i (used self)))
+find-requires : tie.Need-find-requires
+find-requires c κs = search needs
 
-abbrev μ-loop : tie.MeasureT-loop
-μ-loop number self i₀ i = self .count - i
+enum-told : tie.Need-enum-told
+enum-told c = search needs
 
--- the list has 32 records
-whole : (c : tie.Start Inv-loop μ-loop) → length (c .args .t1 .records) ≡ recordLimit
-whole c = mapped-length _ (c .args .t1 .records) recordLimit (c .good .0 .1 .1 .1 .0 .1 .0 .1)
+enum-told-2 : tie.Need-enum-told-2
+enum-told-2 c = search needs
 
-loop-holds : tie.Need-loop-holds Inv-loop μ-loop
-loop-holds c = (omega arith, refl)
-
-mul-q : tie.Need-mul-q Inv-loop μ-loop
-mul-q c = omega arith
-
-element-copy-out-q : tie.Need-element-copy-out-q Inv-loop μ-loop
-element-copy-out-q c = omega arith
-
-returns : tie.Need-returns Inv-loop μ-loop
+returns : tie.Need-returns
 returns c =
-    let s = c .before .before .before .before .before .args in
-    let l = c .before .before .before .before .loop in
-    sym (l .inv .1 ∙ any-found (s .t1 .records) (s .t1 .count) (l .i) unused (omega arith) (omega (arith, whole (c .before .before .before .before .before))) (hasNumber (s .number)) (eq-eqb _ _ (c .if1 .taken)))
+    let s = c .before .before .before .args in
+    sym (registered-at (s .number) (used (s .self)) ∙ ap isAt (sym (c .before .before .find .ensures) ∙ c .enum-told .given .1))
 
-add-i : tie.Need-add-i Inv-loop μ-loop
-add-i c = omega arith
-
-loop-less : tie.Need-loop-less Inv-loop μ-loop
-loop-less c = omega arith
-
-loop-again : tie.Need-loop-again Inv-loop μ-loop
-loop-again c =
-    let s = c .before .before .before .before .before .args in
-    let l = c .before .before .before .before .loop in
-    (omega arith, l .inv .1 ∙ any-next (s .t1 .records) (s .t1 .count) (l .i) unused (omega arith) (omega (arith, whole (c .before .before .before .before .before))) (hasNumber (s .number)) (ne-eqb _ _ (c .if1 .left)))
-
-returns-2 : tie.Need-returns-2 Inv-loop μ-loop
+returns-2 : tie.Need-returns-2
 returns-2 c =
-    let s = c .before .before .args in
-    let l = c .before .loop in
-    sym (l .inv .1 ∙ any-ended (hasNumber (s .number)) (s .t1 .records) (s .t1 .count) (l .i) (omega arith))
+    let s = c .before .before .before .args in
+    sym (registered-at (s .number) (used (s .self)) ∙ ap isAt (sym (c .before .before .find .ensures) ∙ c .enum-told2 .given .1))
 
 pub holds-spec : {M : Type 1} → statement M
-holds-spec =
-    tie.close
-    (tie.spec
-    Inv-loop
-    μ-loop
-    loop-holds
-    mul-q
-    element-copy-out-q
-    returns
-    add-i
-    loop-less
-    loop-again
-    returns-2)
+holds-spec = tie.close (tie.spec find-requires enum-told enum-told-2 returns returns-2)

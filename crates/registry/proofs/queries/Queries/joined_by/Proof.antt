@@ -26,7 +26,7 @@ returns : tie.Need-returns
 returns c =
     let s = c .before .args .self in
     let q = c .before .args .q in
-    (refl, (joined-used (s .records) (s .count) q (omega (arith, whole (c .before))), joined-tidy (s .records) (s .count) q (whole (c .before)) (c .before .pre)))
+    (refl, (joined-used (s .records) (s .count) q (omega (arith, whole (c .before))), (joined-tidy (s .records) (s .count) q (whole (c .before)) (c .before .pre), refl)))
 
 pub joined-by-spec : {M : Type 1} → statement M
 joined-by-spec = tie.close (tie.spec mul-records array-set-from-records add-t5 returns)

@@ -75,7 +75,7 @@ loop-again c =
       subst (λ (k : Queries). Kept (a .number) s k (l .i + 1)) (sym (w .2)) (
         omega (arith, w .1 .ensures .0),
         kept-joined (s .records) (s .count) (l .i) inside full (stays (a .number)) (used (l .kept)) all (l .inv .1 .1) (used (w .1 .result)) (w .1 .ensures .1 .0) (ap not (ne-eqb _ _ (w .0 .taken))),
-        w .1 .ensures .1 .1 (l .inv .1 .2),
+        w .1 .ensures .1 .1 .0 (l .inv .1 .2),
       ),
     ))
     (λ w. (
