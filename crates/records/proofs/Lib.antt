@@ -1,0 +1,10 @@
+pub mod Editing
+pub mod Leaving
+pub mod Steps
+pub mod Local
+pub mod Lists
+pub mod Counting
+pub mod Plain
+pub mod Rows
+pub mod Results
+pub mod Shared

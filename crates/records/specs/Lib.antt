@@ -1,0 +1,2 @@
+pub mod LentList
+pub mod Edited
