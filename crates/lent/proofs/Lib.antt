@@ -1,0 +1,6 @@
+pub mod Lending
+pub mod Listing
+pub mod Copying
+pub mod Agreement
+pub mod Rows
+pub mod Steps

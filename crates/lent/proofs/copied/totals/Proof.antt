@@ -1,0 +1,23 @@
+-- `totals` on a copy meets its contract: the lent list is too short, or the engine gives its totals. Assumes nothing.
+use borrow.Author.Needs.{needs}
+use Rattle.lent.specs.Copied.{tooShort}
+use Rattle.lent.proofs.Copying.{made-alone}
+use Rattle.lent.proofs.copied.totals.Statement.{statement}
+use Rattle.lent.proofs.copied.totals.Tie as tie
+
+returns : tie.Need-returns
+returns c = tooShort (c .if1 .taken)
+
+list-of-requires : tie.Need-list-of-requires
+list-of-requires c κs = search needs
+
+totals-requires : tie.Need-totals-requires
+totals-requires c κs = search needs
+
+returns-2 : tie.Need-returns-2
+returns-2 c =
+    let l = c .before in
+    made-alone (l .before .before .if1 .left) (l .list-of .ensures) (c .totals .ensures)
+
+pub totals-spec : {M : Type 1} → statement M
+totals-spec = tie.close (tie.spec returns list-of-requires totals-requires returns-2)

@@ -1,0 +1,4 @@
+pub mod Lent
+pub mod Contracts
+pub mod Copied
+pub mod Demand3
