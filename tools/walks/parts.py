@@ -15,12 +15,8 @@ class Parts(Statement):
     def write_contracts(self):
         stays = []
         for p in self.params:
-            if p.kind == "mut":
-                stays.append(f"gave-slice ({p.life} ∷ []) tt (plain (λ _. {p.row.row}))")
-            elif p.kind == "shr":
-                stays.append(f"stay-none-slice ({p.life} ∷ []) tt (plain (λ _. {p.row.row})) yes")
-            else:
-                stays.append(f"stay-none (λ _. {p.row.row}) yes")
+            at, row = f"({p.life} ∷ []) tt (plain (λ _. {p.row.row}))", p.row.row
+            stays.append(p.by_kind(f"gave-slice {at}", f"stay-none-slice {at} yes", f"stay-none (λ _. {row}) yes"))
         self.write(f"abbrev stayed : Stays (f.ended .signature .params) (f.ended .kept)\nstayed = {nest(stays)}\n")
         self.write("abbrev Callee : {M : Type 1} (𝓤 : URA M) (H : Heap 𝓤) (A : Atoms 𝓤) (mem : Memory → SProp 𝓤) (run : Routine → Fun 𝓤) → Contract 𝓤\n"
                    "Callee 𝓤 H A mem run = tripleOf 𝓤 H A callee.signature (callee.spec 𝓤 H A mem run)\n")
@@ -189,12 +185,8 @@ class Parts(Statement):
         known = " ".join(f"known-{x}" for _, x, _ in self.called())
         goes = []
         for p in self.params:
-            if p.kind == "mut":
-                goes.append(f"goes-gave-slice 𝓤 H A W {n} {p.life} tt (plain (λ _. {p.row.row}))")
-            elif p.kind == "shr":
-                goes.append(f"goes-none-slice 𝓤 H A W {n} ({p.life} ∷ []) tt (plain (λ _. {p.row.row})) yes")
-            else:
-                goes.append(f"goes-none 𝓤 H A W {n} (λ _. {p.row.row}) yes (λ κs x f. refl)")
+            by, row = f"𝓤 H A W {n}", f"(λ _. {p.row.row})"
+            goes.append(p.by_kind(f"goes-gave-slice {by} {p.life} tt (plain {row})", f"goes-none-slice {by} ({p.life} ∷ []) tt (plain {row}) yes", f"goes-none {by} {row} yes (λ κs x f. refl)"))
         self.write(f"""module _ {{M : Type 1}} (𝓤 : URA M) (H : Heap 𝓤) (A : Atoms 𝓤) (W : Given 𝓤 H A) (mem : Memory → SProp 𝓤) (run : Routine → Fun 𝓤) (𝓣 : Tables 𝓤 H)
     {self.known('𝓣 .C')} where
   self-walks : Walks 𝓤 H A f.ended stayed (WpFn 𝓤 H (𝓣 .C) (𝓣 .Λ) code.function) (f.clauses 𝓤 H A mem run)

@@ -86,6 +86,10 @@ class Param:
     left = property(lambda self: f"‵ (finally {self.row.row} ({self.name} .name) {self.last})")
     fits = property(lambda self: f"(tt, (tt, (record {{ fits = {self.room} .0 }}, tt)))")
 
+    def by_kind(self, mut, shr, plain):
+        """What is written of a slice by `&mut`, of one by `&`, or of a plain value."""
+        return {"mut": mut, "shr": shr, "plain": plain}[self.kind]
+
     def typed(self):
         """That the argument has its type."""
         return self.fits if self.slice else f"({self.row.named('lawful')} .typed {self.name} _ {self.name}-is .0)"

@@ -4,23 +4,22 @@ use Prim.Native.Nat.{ℕ, _-_, _≤_, _<_}
 use native.Mathlib.Omega.{arith}
 use mathlib.Core.Path.{_≡_, refl, sym, ap, ap₂, _∙_, subst}
 use mathlib.Core.Bool.{Bool, true, false, _&&_}
-use mathlib.Core.List.{List, _++_}
+use mathlib.Core.List.{List}
 use borrow.Author.Tests.{leb-true, leb-false}
 use lib.IntN.{ℤ}
 use lib.Dec.{leb}
-use lib.ListN.{length, take, drop, replicate}
+use lib.ListN.{length, take, drop}
 use lib.Seq.{take-all}
 use Rattle.window.specs.declared.query.Query.{Query}
 use Rattle.window.specs.Calls.{Call, Outcome, accepted, refused}
-use Rattle.window.proofs.Lists.{and-left, and-right}
-use Rattle.registry.specs.Records.{recordLimit, unused}
+use Rattle.registry.specs.Records.{recordLimit}
 use Rattle.records.specs.LentList.{firstRecords, overwritten}
 use Rattle.engine.specs.Tables as tables
 use Rattle.engine.specs.Tables.{Tables}
 use Rattle.engine.specs.Machine.{Machine}
 use Rattle.engine.specs.Contracts.{StartEnsures, Ensures, ReadingEnsures}
 use Rattle.lent.specs.declared.held.Engine.{Engine}
-use Rattle.lent.specs.Lent.{Lent, lent, listLong, longEnough, machineWith}
+use Rattle.lent.specs.Lent.{lent, longEnough, machineWith}
 use Rattle.lent.specs.Contracts.{Promise, ListKept, OnLent}
 use Rattle.lent.specs.Copied.{recordsWritten, Copied, tooShort, performed}
 use Rattle.records.proofs.Lists.{first-long, overwritten-length, overwritten-first, overwritten-rest}
@@ -108,11 +107,3 @@ call-steady c = record { short = λ m m′ o p. p .short; unchanged = λ m m′ 
 -- and a reading
 pub reading-steady : (v : ℤ) (before after : List ℤ) → Steady (ReadingEnsures v before after)
 reading-steady v before after = record { short = λ m m′ o p. p .ensures .short; unchanged = λ m m′ o k p. p .ensures .unchanged k }
-
--- ---- a start
-
--- an accepted start leaves the first 32 records 0
-pub start-zeroes : (m : Lent) (o : Outcome) (m′ : Lent) → OnLent StartEnsures m o m′ → longEnough m ≡ true → take recordLimit (m′ .records) ≡ replicate recordLimit unused
-start-zeroes m o m′ e l =
-    let list = (e .promised (and-left _ _ l) .represents (and-right (listLong m) _ l)) .queries in
-    list .tidy ∙ ap₂ (λ (qs : List Query) (n : ℕ). qs ++ replicate (recordLimit - n) unused) (list .used) (list .count)

@@ -1,4 +1,4 @@
--- What an accepted registration or withdrawal does to the lent list is what `append` and `withdraw` on it do.
+-- What accepted calls do to the lent list: a start leaves it 0, and a registration and a withdrawal do what `append` and `withdraw` on it do.
 -- Assumes nothing.
 use Prim.Native.Nat.{ℕ, suc, _+_, _-_, _≤_, _<_, min}
 use native.Mathlib.Omega.{arith}
@@ -6,27 +6,28 @@ use mathlib.Core.Path.{_≡_, refl, sym, ap, ap₂, _∙_}
 use mathlib.Core.Bool.{Bool, true, false, not, cond}
 use mathlib.Core.List.{List, [], _∷_, _++_, append-assoc}
 use borrow.Author.Tests.{leb-true, lt-ltb, not-false}
-use lib.ListN.{length, take, drop, set, replicate, take-append-drop, length-append, length-replicate}
+use lib.ListN.{length, take, drop, set, replicate, take-append-drop, length-append}
 use lib.Seq.{set-at}
 use Rattle.window.specs.declared.query.Query.{Query}
 use Rattle.window.specs.declared.refusal.Verdict.{Verdict}
 use Rattle.window.specs.declared.refusal.Verdict.the-variants.{Passed, Refused}
 use Rattle.window.specs.Refusals.{refusalNumber, hasNumber, isRegistered, withdrawChecks}
-use Rattle.window.specs.Calls.{Call, register, withdraw, Answer, accepted}
+use Rattle.window.specs.Calls.{Call, register, withdraw, Answer, Outcome, accepted}
 use Rattle.window.specs.Model as model
-use Rattle.window.specs.Model.{count, afterWithdraw, Stepped, judged, newQuery, step}
-use Rattle.window.proofs.Lists.{not-left, length-filter}
+use Rattle.window.specs.Model.{count, initial, afterWithdraw, Stepped, judged, newQuery, step}
+use Rattle.window.proofs.Lists.{and-left, and-right, not-left, length-filter}
 use Rattle.window.proofs.Refusals.{passed-any, register-passed}
 use Rattle.window.proofs.Steps.{accepted-refused, register-queries}
 use Rattle.registry.specs.Records.{recordLimit, unused}
 use Rattle.records.specs.LentList.{overwritten, appended, usedOf, without, filledUp, withdrawn}
 use Rattle.records.proofs.Lists.{overwritten-first, overwritten-rest}
+use Rattle.records.proofs.Editing.{filled-length}
 use Rattle.engine.specs.Machine.{ListIs, Represents}
-use Rattle.engine.specs.Contracts.{Ensures}
+use Rattle.engine.specs.Contracts.{Ensures, StartEnsures}
 use Rattle.engine.proofs.Stepping.{verdictOf, acceptedStep, step-judged}
 use Rattle.engine.proofs.Accepting.{joining}
 use Rattle.lent.specs.declared.held.Engine.{Engine}
-use Rattle.lent.specs.Lent.{Lent, listLong, listOf, machineOf}
+use Rattle.lent.specs.Lent.{Lent, listLong, longEnough, listOf, machineOf}
 use Rattle.lent.specs.Contracts.{OnLent}
 
 -- ---- plain lists
@@ -56,12 +57,8 @@ appended-filled qs xs q l r e =
     ∙ set-filled qs (drop recordLimit xs) q r
 
 -- records put into the first places of a list that has them, and what follows there
-overwritten-all : (ys xs : List Query) → length ys ≤ length xs → overwritten ys xs ≡ ys ++ drop (length ys) xs
-overwritten-all ys xs l = sym (take-append-drop (length ys) (overwritten ys xs)) ∙ ap₂ (λ (us vs : List Query). us ++ vs) (overwritten-first ys xs l) (overwritten-rest ys xs)
-
--- records that are filled up are 32
-filled-length : (qs : List Query) → length qs ≤ recordLimit → length (filledUp qs) ≡ recordLimit
-filled-length qs f = simp (length-append, length-replicate) (omega arith)
+overwritten-joined : (ys xs : List Query) → length ys ≤ length xs → overwritten ys xs ≡ ys ++ drop (length ys) xs
+overwritten-joined ys xs l = sym (take-append-drop (length ys) (overwritten ys xs)) ∙ ap₂ (λ (us vs : List Query). us ++ vs) (overwritten-first ys xs l) (overwritten-rest ys xs)
 
 -- a record leaves a list of whose used ones, qs, one has its number
 withdrawn-filled : (number c : ℕ) (qs xs : List Query) → recordLimit ≤ length xs → length qs ≤ recordLimit → usedOf c xs ≡ qs → isRegistered number qs ≡ true
@@ -71,7 +68,7 @@ withdrawn-filled number c qs xs l f u t =
     let whole : length (filledUp left) ≡ recordLimit = filled-length left (omega (arith, length-filter (λ (q : Query). not (hasNumber number q)) qs)) in
     ap (λ (us : List Query). cond (isRegistered number us) (overwritten (filledUp (without number us)) xs) xs) u
     ∙ ap (λ (b : Bool). cond b (overwritten (filledUp left) xs) xs) t
-    ∙ overwritten-all (filledUp left) xs (omega arith)
+    ∙ overwritten-joined (filledUp left) xs (omega arith)
     ∙ ap (λ (k : ℕ). filledUp left ++ drop k xs) whole
 
 -- ---- the list of a state of the model
@@ -79,6 +76,11 @@ withdrawn-filled number c qs xs l f u t =
 -- the 32 records are the model's queries and unused ones
 records-are : (s : model.State) (e : Engine) (list : List Query) → ListIs s (listOf e list) → list ≡ filledUp (s .queries)
 records-are s e list i = i .tidy ∙ ap₂ (λ (qs : List Query) (n : ℕ). qs ++ replicate (recordLimit - n) unused) (i .used) (i .count)
+
+-- so an accepted start leaves the first 32 records 0
+pub start-zeroes : (m : Lent) (o : Outcome) (m′ : Lent) → OnLent StartEnsures m o m′ → longEnough m ≡ true → take recordLimit (m′ .records) ≡ replicate recordLimit unused
+start-zeroes m o m′ e l =
+    records-are initial (m′ .engine) (take recordLimit (m′ .records)) ((e .promised (and-left _ _ l) .represents (and-right (listLong m) _ l)) .queries)
 
 -- an accepted call passed its checks
 accepted-passed : (s : model.State) (c : Call) (ns : List ℕ) (given : List Answer) → accepted ns given ≡ (step s c) .outcome → verdictOf c (count s) (s .queries) ≡ Passed

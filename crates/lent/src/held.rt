@@ -44,7 +44,7 @@ pub struct OnCopy {
     pub write: usize,
 }
 
-// The parts, each by a method: the walk of a function that reads a field of so deep a struct passes the prover's limit of steps.
+// The parts, each by a method: the walk of a function that reads a field of so deep a struct goes past the prover's limit of steps.
 impl OnCopy {
     // What the caller is told.
     pub(crate) fn replied(self) -> Reply

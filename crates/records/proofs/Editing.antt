@@ -88,8 +88,12 @@ appended-all count q xs list zs o e f g = go (hasPlace count xs) refl f
 -- ---- withdraw
 
 -- records that are filled up are 32
+pub filled-length : (qs : List Query) → length qs ≤ recordLimit → length (filledUp qs) ≡ recordLimit
+filled-length qs l = simp (length-append, length-replicate) (omega arith)
+
+-- so the first 32 of them are all
 filled-whole : (qs : List Query) → length qs ≤ recordLimit → take recordLimit (filledUp qs) ≡ filledUp qs
-filled-whole qs l = take-all recordLimit (filledUp qs) (simp (length-append, length-replicate) (omega arith))
+filled-whole qs l = take-all recordLimit (filledUp qs) (omega (arith, filled-length qs l))
 
 -- a record withdrawn from the copy, which is put back, is withdrawn from the list
 pub withdrawn-all : (number count : ℕ) (xs list zs : List Query) (o : Edited) → list ≡ firstRecords xs → o ≡ withdrawnFrom list (length xs) count number → zs ≡ overwritten (take (o .write) (o .list)) xs

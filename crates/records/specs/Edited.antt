@@ -24,7 +24,7 @@ abbrev pub appendedTo : List Query → ℕ → ℕ → Query → Edited
 appendedTo list places count q =
     cond (ltb count (min places recordLimit)) (record { count = count + 1; list = set list count q; write = recordLimit }) (same list count)
 
--- the record with this number leaves, where it is a used one
+-- what has this number leaves, where it is a used one
 abbrev pub withdrawnFrom : List Query → ℕ → ℕ → ℕ → Edited
 withdrawnFrom list places count number =
     cond (isRegistered number (usedIn list places count))

@@ -7,7 +7,7 @@ use registry::queries::RECORDS;
 use window::query::Query;
 ghost use mathlib.Core.Path.{_≡_};
 ghost use Rattle.registry.specs.Records.{recordLimit, placeOf};
-ghost use Rattle.records.specs.Edited.{usedIn, appendedTo, withdrawnFrom};
+ghost use Rattle.records.specs.Edited.{same, usedIn, appendedTo, withdrawnFrom};
 
 // How many records are used after a change of the list, the list after it, and how many of its records are to be put back.
 pub struct Edited {
@@ -18,7 +18,7 @@ pub struct Edited {
 
 // A list that stays as it is.
 fn same(list: [Query; 32], count: usize) -> Edited
-    ensures { λ r. ⌜ r ≡ record { count = count; list = list; write = 0 } ⌝ }
+    ensures { λ r. ⌜ r ≡ same list count ⌝ }
 {
     Edited {
         count,
