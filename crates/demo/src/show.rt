@@ -1,4 +1,5 @@
 // What is printed of calls and outcomes. A write that fails is not looked at: the stored output shows it.
+use ints::magnitude;
 use window::refusal::Refusal;
 
 // Bytes as they are.
@@ -17,15 +18,14 @@ pub fn number(x: u64) {
     io::print_decimal(1, x);
 }
 
-// A blank and a signed number. The magnitude of a negative number is found in two steps, since that of the least one does not fit.
+// A blank and a signed number.
 pub fn signed(x: i64) {
+    let size = magnitude(x);
     if x < 0 {
-        let above = x + 1;
-        let size = 0 - above;
         text(b" -");
-        io::print_decimal(1, size as u64 + 1);
+        io::print_decimal(1, size);
     } else {
-        number(x as u64);
+        number(size);
     }
 }
 

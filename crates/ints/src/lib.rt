@@ -2,7 +2,7 @@
 ghost use mathlib.Core.Path.{_≡_};
 ghost use mathlib.Core.Bool.{true};
 ghost use Prim.Native.Nat.{_<_, _^_};
-ghost use lib.IntN.{_+ℤ_};
+ghost use lib.IntN.{_+ℤ_, natAbs};
 ghost use mir.Syntax.{w64};
 ghost use mir.Val.{SFits};
 ghost use Rattle.ints.specs.Sizes.{Small, clamped};
@@ -43,4 +43,16 @@ pub fn clamp(bound: u64, x: i64) -> i64
         return least;
     }
     x
+}
+
+// The size of x, without its sign.
+pub fn magnitude(x: i64) -> u64
+    ensures { λ r. ⌜ r ≡ natAbs x ⌝ }
+{
+    if x < 0 {
+        let next = x + 1;
+        let size = 0 - next;
+        return (size as u64) + 1;
+    }
+    x as u64
 }
