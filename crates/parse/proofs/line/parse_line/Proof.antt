@@ -1,0 +1,67 @@
+-- `parse_line` meets its contract: the length first, then what the first field names. Assumes nothing.
+use borrow.Author.Needs.{needs}
+use mathlib.Core.Path.{_∙_}
+use Rattle.parse.proofs.Reading.{too-long, named-is}
+use Rattle.parse.proofs.line.parse_line.Statement.{statement}
+use Rattle.parse.proofs.line.parse_line.Tie as tie
+
+returns : tie.Need-returns
+returns c = too-long _ (c .if1 .taken)
+
+count-tabs-requires : tie.Need-count-tabs-requires
+count-tabs-requires c κs = search needs
+
+name-of-requires : tie.Need-name-of-requires
+name-of-requires c κs = search needs
+
+enum-told : tie.Need-enum-told
+enum-told c = search needs
+
+register-line-requires : tie.Need-register-line-requires
+register-line-requires c κs = search needs
+
+enum-told-2 : tie.Need-enum-told-2
+enum-told-2 c = search needs
+
+withdraw-line-requires : tie.Need-withdraw-line-requires
+withdraw-line-requires c κs = search needs
+
+enum-told-3 : tie.Need-enum-told-3
+enum-told-3 c = search needs
+
+reading-line-requires : tie.Need-reading-line-requires
+reading-line-requires c κs = search needs
+
+enum-told-4 : tie.Need-enum-told-4
+enum-told-4 c = search needs
+
+returns-2 : tie.Need-returns-2
+returns-2 c = c .register-line .ensures ∙ named-is _ _ _ (c .before .before .before .before .before .if1 .left) (c .before .before .before .name-of .ensures) (c .before .enum-told .given .1)
+
+returns-3 : tie.Need-returns-3
+returns-3 c = c .withdraw-line .ensures ∙ named-is _ _ _ (c .before .before .before .before .before .if1 .left) (c .before .before .before .name-of .ensures) (c .before .enum-told2 .given .1)
+
+returns-4 : tie.Need-returns-4
+returns-4 c = c .reading-line .ensures ∙ named-is _ _ _ (c .before .before .before .before .before .if1 .left) (c .before .before .before .name-of .ensures) (c .before .enum-told3 .given .1)
+
+returns-5 : tie.Need-returns-5
+returns-5 c = named-is _ _ _ (c .before .before .before .before .if1 .left) (c .before .before .name-of .ensures) (c .enum-told4 .given .1)
+
+pub parse-line-spec : {M : Type 1} → statement M
+parse-line-spec =
+    tie.close
+    (tie.spec
+    returns
+    count-tabs-requires
+    name-of-requires
+    enum-told
+    register-line-requires
+    enum-told-2
+    withdraw-line-requires
+    enum-told-3
+    reading-line-requires
+    enum-told-4
+    returns-2
+    returns-3
+    returns-4
+    returns-5)
