@@ -1,6 +1,6 @@
 -- Tables beyond their first 4,096 places, and their lengths, over a call.
 -- Assumes nothing.
-use mathlib.Core.Path.{_≡_, refl, sym, subst}
+use mathlib.Core.Path.{_≡_, refl, sym, subst, _∙_}
 use mathlib.Core.Bool.{Bool, true, false}
 use mathlib.Core.List.{List}
 use Prim.Native.Nat.{ℕ}
@@ -26,6 +26,22 @@ tables-same t =
       maxValues = kept-same (t .maxValues);
       minStarts = kept-same (t .minStarts);
       minValues = kept-same (t .minValues);
+    }
+
+-- what is kept twice is kept
+kept-then : {A : Type 0} {a b c : List A} → Kept a b → Kept b c → Kept a c
+kept-then p q = record { asLong = q .asLong ∙ p .asLong; beyond = q .beyond ∙ p .beyond }
+
+-- so are tables
+pub tables-then : {a b c : Tables} → TablesKept a b → TablesKept b c → TablesKept a c
+tables-then p q =
+    record {
+      starts = kept-then (p .starts) (q .starts);
+      sums = kept-then (p .sums) (q .sums);
+      maxStarts = kept-then (p .maxStarts) (q .maxStarts);
+      maxValues = kept-then (p .maxValues) (q .maxValues);
+      minStarts = kept-then (p .minStarts) (q .minStarts);
+      minValues = kept-then (p .minValues) (q .minValues);
     }
 
 -- tables that are kept are as long as they were

@@ -41,7 +41,7 @@ answer-stored t at q count value h e f g i = rw (e, f, g, i) (four-stored t at (
 -- ---- the places of several answers
 
 -- four places an answer
-places-length : (given : List Answer) → length (places given) ≡ answerPlaces * length given
+pub places-length : (given : List Answer) → length (places given) ≡ answerPlaces * length given
 places-length [] = refl
 places-length (a ∷ more) = omega (arith, length-append (placesOf a) (places more), places-length more)
 

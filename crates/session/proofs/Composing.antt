@@ -1,0 +1,132 @@
+-- Calls of feed, put together: what a program that calls the three functions in turn has to show.
+-- Assumes nothing.
+use Prim.Native.Nat.{ℕ, _≤_, _<_}
+use native.Mathlib.Omega.{arith}
+use mathlib.Core.Path.{_≡_, refl, sym, ap, subst, _∙_}
+use mathlib.Core.Bool.{Bool, true, false}
+use mathlib.Core.List.{List, [], _++_, append-assoc, append-nil}
+use lib.Dec.{ltb}
+use borrow.Author.Tests.{ltb-true, ltb-false}
+use lib.ListN.{length, take}
+use lib.Seq.{slice, slice-empty, take-all}
+use Rattle.engine.specs.Tables.{Tables, longEnough}
+use Rattle.session.specs.Meaning.{lineRoom}
+use Rattle.session.specs.Stream.{Running, fedAll}
+use Rattle.session.specs.Contracts.{Held, Shown, Says, lineLimit, OpenEnsures, FeedEnsures, finishRoom, FinishEnsures}
+use Rattle.session.specs.Whole.{Fed, none, more, Reached, ReachedSome, Carries, CarriesSome, CarriesFront, RanSome}
+use Rattle.session.proofs.Slices.{slice-then}
+
+-- the same calls, of bytes and text that are equal to these
+fed-as : {h h′ : Held} {xs ys s t : List ℕ} → xs ≡ ys → s ≡ t → Fed h xs s h′ → Fed h ys t h′
+fed-as {h} {h′} {xs} {ys} {s} {t} e d f = subst (λ (l : List ℕ). Fed h l t h′) e (subst (λ (l : List ℕ). Fed h xs l h′) d f)
+
+-- calls, and then others
+pub fed-then : {h h′ h″ : Held} {xs ys s t : List ℕ} → Fed h xs s h′ → Fed h′ ys t h″ → Fed h (xs ++ ys) (s ++ t) h″
+fed-then none g = g
+fed-then {ys = ys} {t = t} (more {chunk = chunk} {new = new} {input = input} {text = text} {from = from} {to = to} {written = written} f rest) g =
+    fed-as (sym (append-assoc (slice from to chunk) input ys)) (sym (append-assoc (take written new) text t)) (more f (fed-then rest g))
+
+-- where there is a byte, room for a line and a number for it, a call takes a byte
+pub progress : {chunk old new : List ℕ} {from to written : ℕ} {h h′ : Held} (r : Running) → FeedEnsures chunk from h old h′ to new written
+    → Shown r h → lineRoom ≤ length old → from < length chunk → h .session .lines < lineLimit → from < to
+progress {chunk} {old} {new} {from} {to} {written} {h} {h′} r f sh room byte number = go (ltb from to) refl
+  where
+    go : (b : Bool) → ltb from to ≡ b → from < to
+    go true e = ltb-true from to e
+    go false e =
+        let here : to ≡ from = omega (arith, f .onward, ltb-false from to e) in
+        let nothing : slice from to chunk ≡ [] = ap (λ (n : ℕ). slice from n chunk) here ∙ slice-empty from chunk in
+        let says : Says (fedAll r []) h′ old 0 new written = subst (λ (l : List ℕ). Says (fedAll r l) h′ old 0 new written) nothing (f .streams .says r sh) in
+        let still : lineLimit ≤ h′ .session .lines = f .stops (omega arith) (omega (arith, says .text .ends)) in
+        omega (arith, still, says .shown .lines, sh .lines)
+
+-- ---- a program's turns
+
+-- opened
+pub reached-first : {t : Tables} {h : Held} → longEnough t ≡ true → OpenEnsures t h → Reached t [] h
+reached-first {t} {h} long o = record { text = []; begun = record { lent = t; long = long; first = h; opens = o; feeds = none }; on = refl }
+
+-- input that is equal to this
+reached-as : {t : Tables} {xs ys : List ℕ} {h : Held} → xs ≡ ys → Reached t xs h → Reached t ys h
+reached-as {t} {xs} {ys} {h} e p = subst (λ (l : List ℕ). Reached t l h) e p
+
+-- one call more
+reached-then : {t : Tables} {chunk old new input : List ℕ} {from to written : ℕ} {h h′ : Held} → Reached t input h → FeedEnsures chunk from h old h′ to new written
+    → Reached t (input ++ slice from to chunk) h′
+reached-then {t} {chunk} {old} {new} {input} {from} {to} {written} {h} {h′} p f =
+    record {
+      text = p .text ++ take written new;
+      begun = record {
+        lent = p .begun .lent;
+        long = p .begun .long;
+        first = p .begun .first;
+        opens = p .begun .opens;
+        feeds = fed-then (p .begun .feeds) (fed-as (append-nil (slice from to chunk)) (append-nil (take written new)) (more f none));
+      };
+      on = p .on;
+    }
+
+-- bytes that are equal to these
+carries-as : {xs ys : List ℕ} {h h′ : Held} → xs ≡ ys → Carries xs h h′ → Carries ys h h′
+carries-as {xs} {ys} {h} {h′} e p = subst (λ (l : List ℕ). Carries l h h′) e p
+
+-- no byte
+carries-nothing : (h : Held) → Carries [] h h
+carries-nothing h = record { on = λ t input p. reached-as (sym (append-nil input)) p }
+
+-- no byte of a chunk
+pub carries-none : (chunk : List ℕ) (h : Held) → Carries (slice 0 0 chunk) h h
+carries-none chunk h = carries-as (sym (slice-empty 0 chunk)) (carries-nothing h)
+
+-- the bytes of a chunk that were handed over, and those taken next
+pub carries-next : {chunk old new : List ℕ} {from to written : ℕ} {h₀ h h′ : Held} → from ≤ length chunk → Carries (slice 0 from chunk) h₀ h → FeedEnsures chunk from h old h′ to new written
+    → Carries (slice 0 to chunk) h₀ h′
+carries-next {chunk} {old} {new} {from} {to} {written} {h₀} {h} {h′} l p f = record { on = on }
+  where
+    on : (t : Tables) (input : List ℕ) → Reached t input h₀ → Reached t (input ++ slice 0 to chunk) h′
+    on t input q =
+        reached-as
+        (append-assoc input (slice 0 from chunk) (slice from to chunk) ∙ ap (λ (l : List ℕ). input ++ l) (slice-then 0 from to chunk (omega arith) (f .onward) (f .inside l)))
+        (reached-then (p .on t input q) f)
+
+-- all bytes of a chunk
+pub carries-all : (chunk : List ℕ) (from : ℕ) {h h′ : Held} → length chunk ≤ from → Carries (slice 0 from chunk) h h′ → Carries chunk h h′
+carries-all chunk from l p = carries-as (take-all from chunk l) p
+
+-- nothing is some bytes
+pub some-none : (h : Held) → CarriesSome h h
+some-none h = record { bytes = []; carries = carries-nothing h }
+
+-- some bytes, and then the front of a buffer
+pub some-then : {buffer : List ℕ} {h h′ h″ : Held} → CarriesSome h h′ → CarriesFront buffer h′ h″ → CarriesSome h h″
+some-then {buffer} {h} {h′} {h″} p q = record { bytes = p .bytes ++ take (q .count) buffer; carries = record { on = on } }
+  where
+    on : (t : Tables) (input : List ℕ) → Reached t input h → Reached t (input ++ (p .bytes ++ take (q .count) buffer)) h″
+    on t input r = reached-as (append-assoc input (p .bytes) (take (q .count) buffer)) (q .carries .on t (input ++ p .bytes) (p .carries .on t input r))
+
+-- some bytes, from the opening on
+pub some-reached : {t : Tables} {h h′ : Held} → Reached t [] h → CarriesSome h h′ → ReachedSome t h′
+some-reached {t} p q = record { input = q .bytes; reached = q .carries .on t [] p }
+
+-- finished
+pub ran-some : {t left : Tables} {h : Held} {old new : List ℕ} {written : ℕ} → finishRoom ≤ length old → ReachedSome t h → FinishEnsures h old left new written → RanSome t left new
+ran-some {t} {left} {h} {old} {new} {written} room p f =
+    record {
+      input = p .input;
+      output = p .reached .text ++ take written new;
+      ran = record {
+        text = p .reached .text;
+        last = h;
+        begun = p .reached .begun;
+        old = old;
+        room = room;
+        left = left;
+        new = new;
+        written = written;
+        finish = f;
+        all = refl;
+      };
+      on = p .reached .on;
+      leaves = refl;
+      ends = refl;
+    }

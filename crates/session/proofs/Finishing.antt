@@ -1,0 +1,144 @@
+-- Where a session begins, goes on and ends.
+-- Assumes nothing.
+use Prim.Native.Nat.{ℕ, zero, suc, _+_, _≤_, _<_}
+use native.Mathlib.Omega.{arith}
+use mathlib.Core.Path.{_≡_, refl, sym, ap, _∙_, subst}
+use mathlib.Core.Bool.{Bool, true, false, not, _&&_, cond, false≢true}
+use mathlib.Core.List.{List, [], _∷_}
+use lib.Dec.{eqb, leb, ltb}
+use borrow.Author.Tests.{ne-eqb, lt-ltb, le-ltb, le-leb, lt-leb, ltb-true, ltb-false, leb-true}
+use lib.ListN.{length, take}
+use Rattle.window.specs.Calls.{Outcome}
+use Rattle.window.specs.Model as model
+use Rattle.window.proofs.Lists.{and-left, and-right}
+use Rattle.engine.specs.declared.state.State.{State}
+use Rattle.engine.specs.Tables.{Tables}
+use Rattle.engine.specs.Machine.{Machine, Represents}
+use Rattle.engine.specs.Contracts.{StartEnsures}
+use Rattle.engine.proofs.Keeping.{tables-same}
+use Rattle.parse.specs.Lines.{parsed}
+use Rattle.print.specs.Lines.{totalsLine, totalsRoom}
+use Rattle.print.specs.Appended.{Appended}
+use Rattle.print.proofs.Appending.{appended-none, appended-then, appended-as}
+use Rattle.session.specs.declared.kept.Kept.{Kept}
+use Rattle.session.specs.declared.stream.Session.{Session}
+use Rattle.session.specs.Meaning.{lineReported, finished, totalsText, lineRoom}
+use Rattle.session.specs.Stream.{Running, lineEnded, begun, ended, keptLength, keptLine}
+use Rattle.session.specs.Contracts.{Held, held, machineOf, Shown, Says, lineLimit, goesOn, LineEnsures, OpenEnsures, finishRoom, LastEnsures, FinishEnsures}
+
+-- ---- the first session
+
+pub started : (m m′ : Machine) (o : Outcome) (none : Kept) → none .length ≡ 0 → StartEnsures m o m′
+    → OpenEnsures (m .tables) (held (record { state = m′ .state; queries = m′ .queries; lines = 0; kept = none }) (m′ .tables))
+started m m′ o none e p =
+    record {
+      shows = λ l. record { represents = p .represents l; lines = refl; line = ap (λ (k : ℕ). take k (none .bytes)) e };
+      zeroes = p .zeroes;
+      short = λ s. ap (λ (x : Machine). x .tables) (p .unchanged 1 (p .short s));
+      few = refl;
+    }
+
+-- ---- whether it goes on
+
+module _ (to size at room lines : ℕ) where
+  pub no-byte : size ≤ to → false ≡ goesOn to size at room lines
+  unfolding goesOn
+  no-byte h = sym (ap (λ (b : Bool). b && (leb (at + lineRoom) room && ltb lines lineLimit)) (le-ltb to size h))
+
+  pub no-room : room < at + lineRoom → false ≡ goesOn to size at room lines
+  unfolding goesOn
+  no-room h = go (ltb to size) (leb (at + lineRoom) room) (lt-leb (at + lineRoom) room h)
+    where
+      go : (a b : Bool) → b ≡ false → false ≡ (a && (b && ltb lines lineLimit))
+      go true b e = sym (ap (λ (x : Bool). x && ltb lines lineLimit) e)
+      go false b e = refl
+
+  pub by-number : to < size → at + lineRoom ≤ room → ltb lines lineLimit ≡ goesOn to size at room lines
+  unfolding goesOn
+  by-number h k =
+      sym (ap (λ (b : Bool). b && (leb (at + lineRoom) room && ltb lines lineLimit)) (lt-ltb to size h) ∙ ap (λ (b : Bool). b && ltb lines lineLimit) (le-leb (at + lineRoom) room k))
+
+  pub goes-on : goesOn to size at room lines ≡ true → (to < size) × ((at + lineRoom ≤ room) × (lines < lineLimit))
+  unfolding goesOn
+  goes-on e =
+      let more : (leb (at + lineRoom) room && ltb lines lineLimit) ≡ true = and-right (ltb to size) (leb (at + lineRoom) room && ltb lines lineLimit) e in
+      (ltb-true to size (and-left (ltb to size) (leb (at + lineRoom) room && ltb lines lineLimit) e), (leb-true (at + lineRoom) room (and-left (leb (at + lineRoom) room) (ltb lines lineLimit) more), ltb-true lines lineLimit (and-right (leb (at + lineRoom) room) (ltb lines lineLimit) more)))
+
+  pub stopped : goesOn to size at room lines ≡ false → to < size → at + lineRoom ≤ room → lineLimit ≤ lines
+  unfolding goesOn
+  stopped e h k = ltb-false lines lineLimit (by-number h k ∙ e)
+
+-- ---- the last line
+
+-- a line has a byte exactly where one is kept
+begun-kept : (k : Kept) (line : List ℕ) → keptLength ≤ length (k .bytes) → keptLine k ≡ take keptLength line → not (eqb (k .length) 0) ≡ begun line
+begun-kept k line room e = go (k .length) (k .bytes) line room e
+  where
+    go : (n : ℕ) (bytes line : List ℕ) → keptLength ≤ length bytes → take n bytes ≡ take keptLength line → not (eqb n 0) ≡ begun line
+    go zero bytes [] h q = refl
+    go zero bytes (x ∷ xs) h q = cc
+    go (suc n) [] line h q = absurd (omega arith)
+    go (suc n) (b ∷ bs) [] h q = cc
+    go (suc n) (b ∷ bs) (x ∷ xs) h q = ap not (ne-eqb (suc n) 0 (omega arith))
+
+module _ (s : Session) (t : Tables) (old : List ℕ) (room : keptLength ≤ length (s .kept .bytes)) where
+  -- there is none, or no number for it
+  pub no-line : ((begun : Bool) → not (eqb (s .kept .length) 0) ≡ begun → s .lines ≤ lineLimit → begun ≡ false) → LastEnsures (held s t) old (held s t) old 0
+  no-line none =
+      record {
+        line = λ r sh few b. absurd (false≢true (sym (none _ refl few) ∙ begun-kept (s .kept) (r .line) room (sh .line) ∙ b));
+        none = λ r sh b. (refl, appended-none old 0);
+        room = omega arith;
+        kept = tables-same t;
+      }
+
+  pub one-line : {h : Held} {new : List ℕ} {next : ℕ} → not (eqb (s .kept .length) 0) ≡ true → LineEnsures (held s t) old 0 h new next → LastEnsures (held s t) old h new next
+  one-line b p =
+      record {
+        line = λ r sh few e. p .says r sh;
+        none = λ r sh e. absurd (false≢true (sym e ∙ sym (begun-kept (s .kept) (r .line) room (sh .line)) ∙ b));
+        room = omega (arith, p .room);
+        kept = p .kept;
+      }
+
+-- ---- the totals
+
+-- n, P, M and N of a state are the model's
+totals-are : (s : model.State) (m : Machine) → Represents s m
+    → totalsLine (m .state .count) (m .state .closed) (m .state .maxima .comparisons) (m .state .minima .comparisons) ≡ totalsText s
+unfolding totalsText
+totals-are s m p = rw (p .state .count, p .state .closed, p .state .maxComparisons, p .state .minComparisons)
+
+-- what the end prints, by whether there is a last line
+ended-by : (r : Running) (b : Bool) → begun (r .line) ≡ b → ended r ≡ cond b (finished (lineReported (r .position) (parsed (r .line)))) (totalsText (r .position .state))
+unfolding ended
+ended-by r b e = ap (λ (x : Bool). cond x (finished (lineReported (r .position) (parsed (r .line)))) (totalsText (r .position .state))) e
+
+pub finishes : (h h′ : Held) (old mid new : List ℕ) (next written : ℕ) → LastEnsures h old h′ mid next → finishRoom ≤ length old → length new ≡ length old
+    → (Appended mid next (totalsLine (h′ .session .state .count) (h′ .session .state .closed) (h′ .session .state .maxima .comparisons) (h′ .session .state .minima .comparisons)) new written) × (written ≤ next + totalsRoom)
+    → FinishEnsures h old (h′ .tables) new written
+finishes h h′ old mid new next written last room size (text, end) =
+    record {
+      says = λ r sh few long. says r sh few (begun (r .line)) refl;
+      short = λ l. absurd (omega arith);
+      fits = omega (arith, last .room, end, size);
+      kept = last .kept;
+    }
+  where
+    says : (r : Running) → Shown r h → h .session .lines ≤ lineLimit → (b : Bool) → begun (r .line) ≡ b → Appended old 0 (ended r) new written
+    says r sh few true e =
+        let line : Says (lineEnded r) h′ old 0 mid next = last .line r sh few e in
+        appended-as (sym (ended-by r true e)) (appended-then (line .text) (appended-as (totals-are _ (machineOf h′) (line .shown .represents)) text))
+    says r sh few false e =
+        let none : (h′ ≡ h) × Appended old 0 [] mid next = last .none r sh e in
+        appended-as (sym (ended-by r false e)) (appended-then (none .1) (appended-as (totals-are (r .position .state) (machineOf h′) (subst (λ (x : Held). Represents (r .position .state) (machineOf x)) (sym (none .0)) (sh .represents))) text))
+
+-- an output without room
+pub no-finish : (h : Held) (old : List ℕ) → length old < finishRoom → FinishEnsures h old (h .tables) old 0
+no-finish h old l =
+    record {
+      says = λ r sh few long. absurd (omega arith);
+      short = λ k. (refl, (refl, refl));
+      fits = omega arith;
+      kept = tables-same (h .tables);
+    }

@@ -1,0 +1,11 @@
+pub mod Slices
+pub mod Streaming
+pub mod Keeping
+pub mod Calling
+pub mod Reporting
+pub mod Feeding
+pub mod Finishing
+pub mod Rereading
+pub mod Whole
+pub mod Composing
+pub mod Cases

@@ -1,0 +1,158 @@
+-- What the functions of a session promise.
+-- Assumes nothing.
+use Prim.Native.Nat.{ℕ, _+_, _*_, _≤_, _<_}
+use mathlib.Core.Path.{_≡_}
+use mathlib.Core.Bool.{Bool, true, false, _&&_}
+use mathlib.Core.List.{List, []}
+use lib.Dec.{leb, ltb}
+use lib.IntN.{ℤ}
+use lib.ListN.{length, take}
+use lib.Seq.{slice}
+use Rattle.window.specs.declared.refusal.Verdict.{Verdict}
+use Rattle.window.specs.declared.refusal.Verdict.the-variants as verdict
+use Rattle.window.specs.Refusals.{answerPlaces}
+use Rattle.window.specs.Calls.{refused}
+use Rattle.window.specs.Model as model
+use Rattle.engine.specs.declared.calls.Answered.{Answered}
+use Rattle.engine.specs.declared.calls.Answered.the-variants as answered
+use Rattle.engine.specs.declared.calls.Reply.{Reply}
+use Rattle.engine.specs.Tables.{Tables, longEnough, TablesKept}
+use Rattle.engine.specs.Machine.{Machine, machine, Represents}
+use Rattle.engine.specs.Outcomes.{readingOutcome}
+use Rattle.engine.specs.Contracts.{zeroedTables}
+use Rattle.parse.specs.declared.line.Line.{Line}
+use Rattle.parse.specs.Lines.{parsed}
+use Rattle.print.specs.Lines.{totalsRoom}
+use Rattle.print.specs.Appended.{Appended}
+use Rattle.session.specs.declared.call.Called.{Called}
+use Rattle.session.specs.declared.kept.Kept.{Kept}
+use Rattle.session.specs.declared.stream.Session.{Session}
+use Rattle.session.specs.Meaning.{lineStep, lineRoom}
+use Rattle.session.specs.Stream.{Running, Streamed, opened, lineEnded, fedAll, ended, begun, keptLength, keptLine}
+
+-- ---- one call
+
+-- an accepted registration or withdrawal has no answers
+abbrev pub noAnswers : Verdict → Answered
+noAnswers verdict.Passed = answered.Answers 0
+noAnswers (verdict.Refused r) = answered.Refused r
+
+-- what a registration or a withdrawal came to
+abbrev pub withoutAnswers : Reply → Called
+withoutAnswers reply = record { outcome = noAnswers (reply .verdict); state = reply .state; queries = reply .queries }
+
+-- the answers that a call gave stand in the answer table
+abbrev pub Within : Answered → List ℤ → Type 0
+Within (answered.Answers k) places = answerPlaces * k ≤ length places
+Within (answered.Refused r) places = Unit {0}
+
+-- the call that a line asks of the engine, on m, came to o with these answer places, and left m′
+pub record CallEnsures (line : Line) (m : Machine) (o : Answered) (places : List ℤ) (m′ : Machine) : Type 0 where
+  pub within : Within o places
+  pub agrees : (s : model.State) → Represents s m → readingOutcome o places ≡ (lineStep s line) .outcome
+  pub represents : (s : model.State) → Represents s m → Represents ((lineStep s line) .state) m′
+  -- a refused line changes nothing
+  pub unchanged : (k : ℕ) → readingOutcome o places ≡ refused k → m′ ≡ m
+  pub kept : TablesKept (m .tables) (m′ .tables)
+
+-- ---- what is held between two bytes
+
+-- the session and the lent tables
+pub record Held : Type 0 where
+  pub session : Session
+  pub tables : Tables
+
+-- the two, in this order
+abbrev pub held : Session → Tables → Held
+held s t = record { session = s; tables = t }
+
+-- the engine's part of it
+abbrev pub machineOf : Held → Machine
+machineOf h = machine (h .session .state) (h .session .queries) (h .tables)
+
+-- a session with these bytes kept of the current line
+abbrev pub keeping : Session → Kept → Session
+keeping s kept = record { state = s .state; queries = s .queries; lines = s .lines; kept = kept }
+
+-- what is held shows the running session r: the engine represents its model, and as many bytes of its line are kept as tell what it asks
+pub record Shown (r : Running) (h : Held) : Type 0 where
+  pub represents : Represents (r .position .state) (machineOf h)
+  pub lines : h .session .lines ≡ r .position .lines
+  pub line : keptLine (h .session .kept) ≡ take keptLength (r .line)
+
+-- what is held shows the running session of s, whose text was put into the output behind the first `at` places
+pub record Says (s : Streamed) (h : Held) (old : List ℕ) (at : ℕ) (new : List ℕ) (next : ℕ) : Type 0 where
+  pub shown : Shown (s .running) h
+  pub text : Appended old at (s .text) new next
+
+-- ---- one line
+
+-- how many lines are numbered before the last: numbers have 64 bits and do not wrap
+abbrev pub lineLimit : ℕ
+lineLimit = 18446744073709551614
+
+-- there is a byte to take, room for what the line that it may end prints, and a number for that line
+unfoldable pub goesOn : (to size at room lines : ℕ) → Bool
+goesOn to size at room lines = ltb to size && (leb (at + lineRoom) room && ltb lines lineLimit)
+
+-- the current line ends
+pub record LineEnsures (h : Held) (old : List ℕ) (at : ℕ) (h′ : Held) (new : List ℕ) (next : ℕ) : Type 0 where
+  pub says : (r : Running) → Shown r h → Says (lineEnded r) h′ old at new next
+  -- a refused line changes nothing: state, query list and tables are equal
+  pub unchanged : (r : Running) → Shown r h → (k : ℕ) → (lineStep (r .position .state) (parsed (r .line))) .outcome ≡ refused k → machineOf h′ ≡ machineOf h
+  pub counts : h′ .session .lines ≡ h .session .lines + 1
+  pub room : next ≤ at + lineRoom
+  pub kept : TablesKept (h .tables) (h′ .tables)
+
+-- ---- bytes
+
+-- these bytes of the input, one after the other
+pub record Streams (bytes : List ℕ) (h : Held) (old : List ℕ) (at : ℕ) (h′ : Held) (new : List ℕ) (next : ℕ) : Type 0 where
+  pub says : (r : Running) → Shown r h → Says (fedAll r bytes) h′ old at new next
+  pub kept : TablesKept (h .tables) (h′ .tables)
+
+-- the rest of a line, or of a chunk if that ends before: the bytes from a place up to another, which is one further at least
+pub record RestEnsures (chunk : List ℕ) (from : ℕ) (h : Held) (old : List ℕ) (at : ℕ) (h′ : Held) (to : ℕ) (new : List ℕ) (next : ℕ) : Type 0 where
+  pub streams : Streams (slice from to chunk) h old at h′ new next
+  pub onward : from < to
+  pub inside : to ≤ length chunk
+  pub room : next ≤ at + lineRoom
+  pub few : h′ .session .lines ≤ lineLimit
+
+-- ---- the three functions that a program calls
+
+-- open, on these tables: a fresh engine and no line, where the tables pass check 1
+pub record OpenEnsures (t : Tables) (h : Held) : Type 0 where
+  pub shows : longEnough t ≡ true → Shown opened h
+  pub zeroes : longEnough t ≡ true → h .tables ≡ zeroedTables t
+  pub short : longEnough t ≡ false → h .tables ≡ t
+  pub few : h .session .lines ≡ 0
+
+-- feed, of a chunk from a place on: the bytes up to `to` are taken, and what they print stands in the first places of the output
+pub record FeedEnsures (chunk : List ℕ) (from : ℕ) (h : Held) (old : List ℕ) (h′ : Held) (to : ℕ) (new : List ℕ) (written : ℕ) : Type 0 where
+  pub streams : Streams (slice from to chunk) h old 0 h′ new written
+  pub onward : from ≤ to
+  pub inside : from ≤ length chunk → to ≤ length chunk
+  -- bytes are left only where there is no room for what a line prints at most, or the lines have come to their limit
+  pub stops : to < length chunk → written + lineRoom ≤ length old → lineLimit ≤ h′ .session .lines
+  pub few : h .session .lines ≤ lineLimit → h′ .session .lines ≤ lineLimit
+  pub fits : written ≤ length new
+
+-- what the end of the input prints at most
+abbrev pub finishRoom : ℕ
+finishRoom = lineRoom + totalsRoom
+
+-- the last line, if it has a byte, ends
+pub record LastEnsures (h : Held) (old : List ℕ) (h′ : Held) (new : List ℕ) (next : ℕ) : Type 0 where
+  pub line : (r : Running) → Shown r h → h .session .lines ≤ lineLimit → begun (r .line) ≡ true → Says (lineEnded r) h′ old 0 new next
+  pub none : (r : Running) → Shown r h → begun (r .line) ≡ false → (h′ ≡ h) × Appended old 0 [] new next
+  pub room : next ≤ lineRoom
+  pub kept : TablesKept (h .tables) (h′ .tables)
+
+-- finish: what the end of the input prints stands in the first places of the output
+pub record FinishEnsures (h : Held) (old : List ℕ) (t′ : Tables) (new : List ℕ) (written : ℕ) : Type 0 where
+  pub says : (r : Running) → Shown r h → h .session .lines ≤ lineLimit → finishRoom ≤ length old → Appended old 0 (ended r) new written
+  -- an output that is too short stays as it is, and so do the tables
+  pub short : length old < finishRoom → (written ≡ 0) × ((new ≡ old) × (t′ ≡ h .tables))
+  pub fits : written ≤ length new
+  pub kept : TablesKept (h .tables) t′

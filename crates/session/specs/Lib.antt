@@ -1,0 +1,5 @@
+pub mod Meaning
+pub mod Stream
+pub mod Cases
+pub mod Contracts
+pub mod Whole

@@ -1,0 +1,82 @@
+-- A whole session as one claim: for every input, however it is cut into chunks, what is written is the session's meaning over the reference model.
+-- `proofs/Whole.antt` proves it.
+-- Assumes nothing.
+use Prim.Native.Nat.{ℕ, _≤_, _<_}
+use mathlib.Core.Path.{_≡_}
+use mathlib.Core.Bool.{true}
+use mathlib.Core.List.{List, [], _++_}
+use lib.ListN.{length, take}
+use lib.Seq.{slice}
+use Rattle.engine.specs.Tables.{Tables, longEnough}
+use Rattle.session.specs.Meaning.{sessionOutput}
+use Rattle.session.specs.Contracts.{Held, OpenEnsures, FeedEnsures, finishRoom, FinishEnsures}
+
+-- calls of feed, each on what the call before left: the bytes that they took, and what stood at the front of the output after each, one after the other
+pub data Fed : Held → List ℕ → List ℕ → Held → Type 0 where
+  -- no call
+  none : {h : Held} → Fed h [] [] h
+  -- a first call, of any chunk from any place on and with any output, and then the others
+  more : {h h′ h″ : Held} {chunk old new input text : List ℕ} {from to written : ℕ}
+      → FeedEnsures chunk from h old h′ to new written → Fed h′ input text h″ → Fed h (slice from to chunk ++ input) (take written new ++ text) h″
+
+-- a session that was opened on tables that pass check 1, whatever they held, and fed this input: what stood at the front of the output, and what is held
+pub record Begun (input text : List ℕ) (h : Held) : Type 0 where
+  pub lent : Tables
+  pub long : longEnough lent ≡ true
+  pub first : Held
+  pub opens : OpenEnsures lent first
+  pub feeds : Fed first input text h
+
+-- a session whole: opened, fed this input and finished; what was written
+pub record Ran (input output : List ℕ) : Type 0 where
+  pub text : List ℕ
+  pub last : Held
+  pub begun : Begun input text last
+  pub old : List ℕ
+  pub room : finishRoom ≤ length old
+  pub left : Tables
+  pub new : List ℕ
+  pub written : ℕ
+  pub finish : FinishEnsures last old left new written
+  pub all : output ≡ text ++ take written new
+
+-- the claim
+abbrev pub WholeSession : Type 0
+WholeSession = (input output : List ℕ) → Ran input output → output ≡ sessionOutput input
+
+-- ---- for a program that hands its input on as it comes
+
+-- opened on these tables and fed this input, whatever it printed
+pub record Reached (lent : Tables) (input : List ℕ) (h : Held) : Type 0 where
+  pub text : List ℕ
+  pub begun : Begun input text h
+  pub on : begun .lent ≡ lent
+
+-- opened on these tables and fed some input
+pub record ReachedSome (lent : Tables) (h : Held) : Type 0 where
+  pub input : List ℕ
+  pub reached : Reached lent input h
+
+-- from one to the other these bytes are fed, whatever input came before
+pub record Carries (bytes : List ℕ) (h h′ : Held) : Type 0 where
+  pub on : (lent : Tables) (input : List ℕ) → Reached lent input h → Reached lent (input ++ bytes) h′
+
+-- from one to the other some bytes are fed
+pub record CarriesSome (h h′ : Held) : Type 0 where
+  pub bytes : List ℕ
+  pub carries : Carries bytes h h′
+
+-- from one to the other a byte or more are fed, from the front of this buffer
+pub record CarriesFront (buffer : List ℕ) (h h′ : Held) : Type 0 where
+  pub count : ℕ
+  pub some : 0 < count
+  pub carries : Carries (take count buffer) h h′
+
+-- a whole session of some input: opened on these tables, and the tables and the output that its end left
+pub record RanSome (lent left : Tables) (new : List ℕ) : Type 0 where
+  pub input : List ℕ
+  pub output : List ℕ
+  pub ran : Ran input output
+  pub on : ran .begun .lent ≡ lent
+  pub leaves : ran .left ≡ left
+  pub ends : ran .new ≡ new
