@@ -1,0 +1,109 @@
+-- `conclude` meets its contract: where the input ended, the session is finished, and whole. What is written is inside the output. Assumes nothing.
+use lib.ListN.{length-take}
+use native.Mathlib.Omega.{arith}
+use borrow.Author.Needs.{needs}
+use Rattle.session.proofs.Composing.{ran-some}
+use Rattle.pchelodar.specs.Contracts.{Concluded}
+use Rattle.pchelodar.proofs.Composing.{handed-ended, not-ended, concluded}
+use Rattle.pchelodar.proofs.conclude.Statement.{statement}
+use Rattle.pchelodar.proofs.conclude.Tie as tie
+
+enum-told : tie.Need-enum-told
+enum-told c = search needs
+
+finish-requires : tie.Need-finish-requires
+finish-requires c κs = search needs
+
+returns : tie.Need-returns
+returns c lent handed = not-ended lent _ _ (c .before .before .before .before .before .before .args .done .progress) (c .match .keys2)
+
+slice-reshare-prefix-write-all : tie.Need-slice-reshare-prefix-write-all
+slice-reshare-prefix-write-all c = search needs
+
+slice-aggregate-write-all : tie.Need-slice-aggregate-write-all
+slice-aggregate-write-all c =
+    let at-finish = c .before .before .before .before .before .before .before .before .before .before .before .before in
+    omega (arith, at-finish .finish .ensures .fits, length-take (at-finish .finish .result) (at-finish .finish .last .1 .1 .1 .1 .1 .1 .1 .0))
+
+write-all-requires : tie.Need-write-all-requires
+write-all-requires c κs = search needs
+
+same-length : tie.Need-same-length
+same-length c = search needs
+
+same-length-2 : tie.Need-same-length-2
+same-length-2 c = search needs
+
+same-length-3 : tie.Need-same-length-3
+same-length-3 c = search needs
+
+same-length-4 : tie.Need-same-length-4
+same-length-4 c = search needs
+
+same-length-5 : tie.Need-same-length-5
+same-length-5 c = search needs
+
+same-length-6 : tie.Need-same-length-6
+same-length-6 c = search needs
+
+same-length-7 : tie.Need-same-length-7
+same-length-7 c = search needs
+
+returns-2 : tie.Need-returns-2
+returns-2 c lent handed =
+    let at-finish = c .before .before .before .before .before .before .before .before .before .before .before .before .before .before in
+    let at-told = at-finish .before .before .before .before .before .before .before .before in
+    let at-start = at-told .before .before .before .before .before .before .before in
+    concluded (ran-some (at-start .pre) (handed-ended lent _ (at-told .enum-told .given .1) handed) (at-finish .finish .ensures))
+
+same-length-8 : tie.Need-same-length-8
+same-length-8 c = search needs
+
+same-length-9 : tie.Need-same-length-9
+same-length-9 c = search needs
+
+same-length-10 : tie.Need-same-length-10
+same-length-10 c = search needs
+
+same-length-11 : tie.Need-same-length-11
+same-length-11 c = search needs
+
+same-length-12 : tie.Need-same-length-12
+same-length-12 c = search needs
+
+same-length-13 : tie.Need-same-length-13
+same-length-13 c = search needs
+
+same-length-14 : tie.Need-same-length-14
+same-length-14 c = search needs
+
+returns-3 : tie.Need-returns-3
+unfolding Concluded
+returns-3 c lent handed = tt
+
+pub conclude-spec : {M : Type 1} → statement M
+conclude-spec =
+    tie.close
+    (tie.spec
+    enum-told
+    finish-requires
+    returns
+    slice-reshare-prefix-write-all
+    slice-aggregate-write-all
+    write-all-requires
+    same-length
+    same-length-2
+    same-length-3
+    same-length-4
+    same-length-5
+    same-length-6
+    same-length-7
+    returns-2
+    same-length-8
+    same-length-9
+    same-length-10
+    same-length-11
+    same-length-12
+    same-length-13
+    same-length-14
+    returns-3)

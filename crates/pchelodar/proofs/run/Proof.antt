@@ -1,0 +1,93 @@
+-- `run` meets its contract: opened, fed all input and finished, in this order. The lengths stay. Assumes nothing.
+use native.Mathlib.Omega.{arith}
+use mathlib.Core.Path.{_∙_}
+use borrow.Author.Needs.{needs}
+use Rattle.session.proofs.Composing.{reached-first}
+use Rattle.pchelodar.proofs.Composing.{all-handed}
+use Rattle.pchelodar.proofs.run.Statement.{statement}
+use Rattle.pchelodar.proofs.run.Tie as tie
+
+open-requires : tie.Need-open-requires
+open-requires c κs = search needs
+
+read-all-requires : tie.Need-read-all-requires
+read-all-requires c κs = search needs
+
+conclude-requires : tie.Need-conclude-requires
+conclude-requires c κs =
+    let at-read-all = c .before .before .before .before .before .before .before .before .before .before .before .before .before .before .before .before .before .before .before .before in
+    let at-start = at-read-all .before .before .before .before .before .before .before .before .before .before .before .before .before .before .before .before .before .before .before .before .before .before .before .before .before .before .before .before .before .before in
+    omega (arith, at-start .pre .1, at-read-all .read-all .kept .1 .1 .1 .1 .1 .1 .1 .1 .0)
+
+same-length : tie.Need-same-length
+same-length c =
+    let at-conclude = c .before .before .before .before .before .before .before .before .before .before .before in
+    let at-read-all = at-conclude .before .before .before .before .before .before .before .before .before .before .before .before .before .before .before .before .before .before .before .before .before in
+    let at-open = at-read-all .before .before .before .before .before .before .before .before .before .before .before .before .before .before .before .before .before .before in
+    at-conclude .conclude .kept .1 .0 ∙ at-read-all .read-all .kept .1 .0 ∙ at-open .«open» .kept .0
+
+same-length-2 : tie.Need-same-length-2
+same-length-2 c =
+    let at-conclude = c .before .before .before .before .before .before .before .before .before .before .before in
+    let at-read-all = at-conclude .before .before .before .before .before .before .before .before .before .before .before .before .before .before .before .before .before .before .before .before .before in
+    let at-open = at-read-all .before .before .before .before .before .before .before .before .before .before .before .before .before .before .before .before .before .before in
+    at-conclude .conclude .kept .1 .1 .0 ∙ at-read-all .read-all .kept .1 .1 .0 ∙ at-open .«open» .kept .1 .0
+
+same-length-3 : tie.Need-same-length-3
+same-length-3 c =
+    let at-conclude = c .before .before .before .before .before .before .before .before .before .before .before in
+    let at-read-all = at-conclude .before .before .before .before .before .before .before .before .before .before .before .before .before .before .before .before .before .before .before .before .before in
+    let at-open = at-read-all .before .before .before .before .before .before .before .before .before .before .before .before .before .before .before .before .before .before in
+    at-conclude .conclude .kept .1 .1 .1 .0 ∙ at-read-all .read-all .kept .1 .1 .1 .0 ∙ at-open .«open» .kept .1 .1 .0
+
+same-length-4 : tie.Need-same-length-4
+same-length-4 c =
+    let at-conclude = c .before .before .before .before .before .before .before .before .before .before .before in
+    let at-read-all = at-conclude .before .before .before .before .before .before .before .before .before .before .before .before .before .before .before .before .before .before .before .before .before in
+    let at-open = at-read-all .before .before .before .before .before .before .before .before .before .before .before .before .before .before .before .before .before .before in
+    at-conclude .conclude .kept .1 .1 .1 .1 .0 ∙ at-read-all .read-all .kept .1 .1 .1 .1 .0 ∙ at-open .«open» .kept .1 .1 .1 .0
+
+same-length-5 : tie.Need-same-length-5
+same-length-5 c =
+    let at-conclude = c .before .before .before .before .before .before .before .before .before .before .before in
+    let at-read-all = at-conclude .before .before .before .before .before .before .before .before .before .before .before .before .before .before .before .before .before .before .before .before .before in
+    let at-open = at-read-all .before .before .before .before .before .before .before .before .before .before .before .before .before .before .before .before .before .before in
+    at-conclude .conclude .kept .1 .1 .1 .1 .1 .0 ∙ at-read-all .read-all .kept .1 .1 .1 .1 .1 .0 ∙ at-open .«open» .kept .1 .1 .1 .1 .0
+
+same-length-6 : tie.Need-same-length-6
+same-length-6 c =
+    let at-conclude = c .before .before .before .before .before .before .before .before .before .before .before in
+    let at-read-all = at-conclude .before .before .before .before .before .before .before .before .before .before .before .before .before .before .before .before .before .before .before .before .before in
+    let at-open = at-read-all .before .before .before .before .before .before .before .before .before .before .before .before .before .before .before .before .before .before in
+    at-conclude .conclude .kept .1 .1 .1 .1 .1 .1 .0 ∙ at-read-all .read-all .kept .1 .1 .1 .1 .1 .1 .0 ∙ at-open .«open» .kept .1 .1 .1 .1 .1 .0
+
+same-length-7 : tie.Need-same-length-7
+same-length-7 c = search needs
+
+same-length-8 : tie.Need-same-length-8
+same-length-8 c = search needs
+
+returns : tie.Need-returns
+returns c =
+    let at-conclude = c .before .before .before .before .before .before .before .before .before .before .before in
+    let at-read-all = at-conclude .before .before .before .before .before .before .before .before .before .before .before .before .before .before .before .before .before .before .before .before .before in
+    let at-open = at-read-all .before .before .before .before .before .before .before .before .before .before .before .before .before .before .before .before .before .before in
+    let at-start = at-open .before .before .before .before .before .before .before .before .before .before .before .before in
+    at-conclude .conclude .ensures _ (all-handed _ (at-read-all .read-all .result .progress) (reached-first (at-start .pre .0) (at-open .«open» .ensures)) (at-read-all .read-all .ensures))
+
+pub run-spec : {M : Type 1} → statement M
+run-spec =
+    tie.close
+    (tie.spec
+    open-requires
+    read-all-requires
+    conclude-requires
+    same-length
+    same-length-2
+    same-length-3
+    same-length-4
+    same-length-5
+    same-length-6
+    same-length-7
+    same-length-8
+    returns)

@@ -1,0 +1,294 @@
+// The session program (document 01, "Session lines"): it reads standard input, calls the session, and writes standard output.
+use deque::ring::CAPACITY;
+use libc::STDERR_FILENO;
+use libc::STDIN_FILENO;
+use libc::STDOUT_FILENO;
+use session::stream::Session;
+use window::query::Count;
+ghost use mathlib.Core.Path.{_≡_};
+ghost use mathlib.Core.Bool.{true};
+ghost use Prim.Native.Nat.{_≤_};
+ghost use lib.ListN.{length};
+ghost use Rattle.engine.specs.Tables.{Tables, tables, longEnough};
+ghost use Rattle.session.specs.Contracts.{held, finishRoom};
+ghost use Rattle.pchelodar.specs.Contracts.{ChunkFed, ChunkRead, AllRead, Handed, Concluded};
+
+// How a run goes on, or ended.
+enum Progress {
+    Onward,
+    InputEnded,
+    ReadFailed,
+    WriteFailed,
+    TooLong,
+}
+
+struct Running {
+    session: Session,
+    progress: Progress,
+}
+
+// All bytes of a chunk. What they print is written whenever the output is nearly full, and at the chunk's end.
+fn feed_chunk(
+    session: Session,
+    starts: &mut [Count],
+    sums: &mut [i64],
+    max_starts: &mut [Count],
+    max_values: &mut [i32],
+    min_starts: &mut [Count],
+    min_values: &mut [i32],
+    chunk: &[u8],
+    out: &mut [u8],
+) -> Running
+    ensures { λ r. ⌜ ChunkFed (now (chunk .entry))
+        (held session (tables (now (starts .entry)) (now (sums .entry)) (now («max_starts» .entry)) (now («max_values» .entry)) (now («min_starts» .entry)) (now («min_values» .entry))))
+        (held (r .session) (tables (now (starts .exit)) (now (sums .exit)) (now («max_starts» .exit)) (now («max_values» .exit)) (now («min_starts» .exit)) (now («min_values» .exit)))) (r .progress) ⌝ }
+{
+    let mut held = session;
+    let mut from = 0;
+    while from < chunk.len() {
+        let taken = session::stream::feed(
+            held,
+            starts,
+            sums,
+            max_starts,
+            max_values,
+            min_starts,
+            min_values,
+            chunk,
+            from,
+            out,
+        );
+        held = taken.session;
+        let to = taken.to;
+        let at = taken.at;
+        if !io::write_all(STDOUT_FILENO, &out[..at]) {
+            return Running {
+                session: held,
+                progress: Progress::WriteFailed,
+            };
+        }
+        if to <= from {
+            return Running {
+                session: held,
+                progress: Progress::TooLong,
+            };
+        }
+        from = to;
+    }
+    Running {
+        session: held,
+        progress: Progress::Onward,
+    }
+}
+
+// One read of standard input, and what it brings.
+fn read_chunk(
+    session: Session,
+    starts: &mut [Count],
+    sums: &mut [i64],
+    max_starts: &mut [Count],
+    max_values: &mut [i32],
+    min_starts: &mut [Count],
+    min_values: &mut [i32],
+    chunk: &mut [u8],
+    out: &mut [u8],
+) -> Running
+    ensures { λ r. ⌜ ChunkRead (now (chunk .exit)) (held session (tables (now (starts .entry)) (now (sums .entry)) (now («max_starts» .entry)) (now («max_values» .entry)) (now («min_starts» .entry)) (now («min_values» .entry))))
+        (held (r .session) (tables (now (starts .exit)) (now (sums .exit)) (now («max_starts» .exit)) (now («max_values» .exit)) (now («min_starts» .exit)) (now («min_values» .exit)))) (r .progress) ⌝ }
+{
+    let got = libc::read(STDIN_FILENO, chunk);
+    if got < 0 {
+        return Running {
+            session,
+            progress: Progress::ReadFailed,
+        };
+    }
+    let count = io::count(got, chunk);
+    if count == 0 {
+        return Running {
+            session,
+            progress: Progress::InputEnded,
+        };
+    }
+    feed_chunk(
+        session,
+        starts,
+        sums,
+        max_starts,
+        max_values,
+        min_starts,
+        min_values,
+        &chunk[..count],
+        out,
+    )
+}
+
+// Standard input to its end. A loop needs a number that falls: so many reads are more than a machine can make in a century.
+fn read_all(
+    session: Session,
+    starts: &mut [Count],
+    sums: &mut [i64],
+    max_starts: &mut [Count],
+    max_values: &mut [i32],
+    min_starts: &mut [Count],
+    min_values: &mut [i32],
+    chunk: &mut [u8],
+    out: &mut [u8],
+) -> Running
+    ensures { λ r. ⌜ AllRead (held session (tables (now (starts .entry)) (now (sums .entry)) (now («max_starts» .entry)) (now («max_values» .entry)) (now («min_starts» .entry)) (now («min_values» .entry))))
+        (held (r .session) (tables (now (starts .exit)) (now (sums .exit)) (now («max_starts» .exit)) (now («max_values» .exit)) (now («min_starts» .exit)) (now («min_values» .exit)))) (r .progress) ⌝ }
+{
+    let mut held = session;
+    let mut reads: u64 = 18_446_744_073_709_551_615;
+    while 0 < reads {
+        reads -= 1;
+        let next = read_chunk(
+            held,
+            starts,
+            sums,
+            max_starts,
+            max_values,
+            min_starts,
+            min_values,
+            chunk,
+            out,
+        );
+        held = next.session;
+        let progress = next.progress;
+        match progress {
+            Progress::Onward => {}
+            _ => return Running {
+                session: held,
+                progress,
+            },
+        }
+    }
+    Running {
+        session: held,
+        progress: Progress::TooLong,
+    }
+}
+
+// The end of the input: the totals are printed only where the input was read to its end and all before them was written.
+fn conclude(
+    done: Running,
+    starts: &mut [Count],
+    sums: &mut [i64],
+    max_starts: &mut [Count],
+    max_values: &mut [i32],
+    min_starts: &mut [Count],
+    min_values: &mut [i32],
+    out: &mut [u8],
+) -> Progress
+    requires { ⌜ finishRoom ≤ length (now out) ⌝ }
+    ensures { λ r. ⌜ ((lent : Tables) → Handed lent (held (done .session) (tables (now (starts .entry)) (now (sums .entry)) (now («max_starts» .entry)) (now («max_values» .entry)) (now («min_starts» .entry)) (now («min_values» .entry)))) (done .progress)
+        → Concluded lent (tables (now (starts .exit)) (now (sums .exit)) (now («max_starts» .exit)) (now («max_values» .exit)) (now («min_starts» .exit)) (now («min_values» .exit))) (now (out .exit)) r) ⌝ }
+{
+    let session = done.session;
+    let progress = done.progress;
+    let at = match progress {
+        Progress::InputEnded => session::stream::finish(
+            session,
+            starts,
+            sums,
+            max_starts,
+            max_values,
+            min_starts,
+            min_values,
+            out,
+        ),
+        _ => return progress,
+    };
+    if io::write_all(STDOUT_FILENO, &out[..at]) {
+        return Progress::InputEnded;
+    }
+    Progress::WriteFailed
+}
+
+// What ended the run before its time, on standard error.
+fn report_failure(progress: Progress) {
+    match progress {
+        Progress::ReadFailed => message(
+            b"pchelodar: standard input cannot be read: what was printed is not complete\n",
+        ),
+        Progress::WriteFailed => message(
+            b"pchelodar: standard output cannot be written: what was printed is not complete\n",
+        ),
+        Progress::TooLong => message(
+            b"pchelodar: the input is longer than can be counted: what was printed is not complete\n",
+        ),
+        _ => {}
+    }
+}
+
+fn message(text: &[u8]) {
+    io::write_all(STDERR_FILENO, text);
+}
+
+// A whole session.
+fn run(
+    starts: &mut [Count],
+    sums: &mut [i64],
+    max_starts: &mut [Count],
+    max_values: &mut [i32],
+    min_starts: &mut [Count],
+    min_values: &mut [i32],
+    chunk: &mut [u8],
+    out: &mut [u8],
+) -> Progress
+    requires { ⌜ (longEnough (tables (now starts) (now sums) (now «max_starts») (now «max_values») (now «min_starts») (now «min_values»)) ≡ true) × (finishRoom ≤ length (now out)) ⌝ }
+    ensures { λ r. ⌜ Concluded (tables (now (starts .entry)) (now (sums .entry)) (now («max_starts» .entry)) (now («max_values» .entry)) (now («min_starts» .entry)) (now («min_values» .entry)))
+        (tables (now (starts .exit)) (now (sums .exit)) (now («max_starts» .exit)) (now («max_values» .exit)) (now («min_starts» .exit)) (now («min_values» .exit))) (now (out .exit)) r ⌝ }
+{
+    let opened = session::stream::open(
+        starts,
+        sums,
+        max_starts,
+        max_values,
+        min_starts,
+        min_values,
+    );
+    let done = read_all(
+        opened,
+        starts,
+        sums,
+        max_starts,
+        max_values,
+        min_starts,
+        min_values,
+        chunk,
+        out,
+    );
+    conclude(
+        done,
+        starts,
+        sums,
+        max_starts,
+        max_values,
+        min_starts,
+        min_values,
+        out,
+    )
+}
+
+fn main() {
+    let mut starts = [0u32; CAPACITY];
+    let mut sums = [0i64; CAPACITY];
+    let mut max_starts = [0u32; CAPACITY];
+    let mut max_values = [0i32; CAPACITY];
+    let mut min_starts = [0u32; CAPACITY];
+    let mut min_values = [0i32; CAPACITY];
+    let mut chunk = io::large_buffer();
+    let mut out = io::large_buffer();
+    let progress = run(
+        &mut starts,
+        &mut sums,
+        &mut max_starts,
+        &mut max_values,
+        &mut min_starts,
+        &mut min_values,
+        &mut chunk,
+        &mut out,
+    );
+    report_failure(progress);
+}
