@@ -39,6 +39,7 @@ fn feed_chunk(
     chunk: &[u8],
     out: &mut [u8],
 ) -> Running
+    requires { ⌜ finishRoom ≤ length (now out) ⌝ }
     ensures { λ r. ⌜ ChunkFed (now (chunk .entry))
         (held session (tables (now (starts .entry)) (now (sums .entry)) (now («max_starts» .entry)) (now («max_values» .entry)) (now («min_starts» .entry)) (now («min_values» .entry))))
         (held (r .session) (tables (now (starts .exit)) (now (sums .exit)) (now («max_starts» .exit)) (now («max_values» .exit)) (now («min_starts» .exit)) (now («min_values» .exit)))) (r .progress) ⌝ }
@@ -93,6 +94,7 @@ fn read_chunk(
     chunk: &mut [u8],
     out: &mut [u8],
 ) -> Running
+    requires { ⌜ finishRoom ≤ length (now out) ⌝ }
     ensures { λ r. ⌜ ChunkRead (now (chunk .exit)) (held session (tables (now (starts .entry)) (now (sums .entry)) (now («max_starts» .entry)) (now («max_values» .entry)) (now («min_starts» .entry)) (now («min_values» .entry))))
         (held (r .session) (tables (now (starts .exit)) (now (sums .exit)) (now («max_starts» .exit)) (now («max_values» .exit)) (now («min_starts» .exit)) (now («min_values» .exit)))) (r .progress) ⌝ }
 {
@@ -135,6 +137,7 @@ fn read_all(
     chunk: &mut [u8],
     out: &mut [u8],
 ) -> Running
+    requires { ⌜ finishRoom ≤ length (now out) ⌝ }
     ensures { λ r. ⌜ AllRead (held session (tables (now (starts .entry)) (now (sums .entry)) (now («max_starts» .entry)) (now («max_values» .entry)) (now («min_starts» .entry)) (now («min_values» .entry))))
         (held (r .session) (tables (now (starts .exit)) (now (sums .exit)) (now («max_starts» .exit)) (now («max_values» .exit)) (now («min_starts» .exit)) (now («min_values» .exit)))) (r .progress) ⌝ }
 {

@@ -7,7 +7,7 @@ use native.Mathlib.Omega.{arith}
 use mathlib.Core.List.{List, [], _∷_, _++_, append-assoc, append-nil}
 use lib.ListN.{length, take, drop, set, length-append, length-set}
 use lib.Seq.{take-suc-set, drop-set-lt, drop-drop}
-use Rattle.print.specs.Appended.{Appended}
+use Rattle.print.specs.Appended.{Appended, AppendedSome}
 
 pub appended-none : (l : List ℕ) (at : ℕ) → Appended l at [] l at
 appended-none l at = record { ends = omega arith; asLong = refl; text = sym (append-nil (take at l)); beyond = refl }
@@ -39,3 +39,11 @@ appended-then {l} {m} {n} {xs} {ys} {a} {b} {c} p q =
 -- the same bytes, said otherwise
 pub appended-as : {l n xs ys : List ℕ} {a c : ℕ} → xs ≡ ys → Appended l a xs n c → Appended l a ys n c
 appended-as e p = rw e at p
+
+-- ---- whatever the bytes are
+
+pub appends-none : (l : List ℕ) (at : ℕ) → AppendedSome l at l at
+appends-none l at = record { bytes = []; appended = appended-none l at }
+
+pub appends-then : {l m n : List ℕ} {a b c : ℕ} → AppendedSome l a m b → AppendedSome m b n c → AppendedSome l a n c
+appends-then p q = record { bytes = p .bytes ++ q .bytes; appended = appended-then (p .appended) (q .appended) }

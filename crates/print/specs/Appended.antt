@@ -11,3 +11,8 @@ pub record Appended (old : List ℕ) (at : ℕ) (bytes new : List ℕ) (next : �
   pub asLong : length new ≡ length old
   pub text : take next new ≡ take at old ++ bytes
   pub beyond : drop next new ≡ drop next old
+
+-- some bytes were put, and no other place is written
+pub record AppendedSome (old : List ℕ) (at : ℕ) (new : List ℕ) (next : ℕ) : Type 0 where
+  pub bytes : List ℕ
+  pub appended : Appended old at bytes new next

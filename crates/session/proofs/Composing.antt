@@ -1,20 +1,22 @@
 -- Calls of feed, put together: what a program that calls the three functions in turn has to show.
 -- Assumes nothing.
-use Prim.Native.Nat.{ℕ, _≤_, _<_}
+use Prim.Native.Nat.{ℕ, _+_, _≤_, _<_}
 use native.Mathlib.Omega.{arith}
 use mathlib.Core.Path.{_≡_, refl, sym, ap, subst, _∙_}
 use mathlib.Core.Bool.{Bool, true, false}
 use mathlib.Core.List.{List, [], _++_, append-assoc, append-nil}
 use lib.Dec.{ltb}
 use borrow.Author.Tests.{ltb-true, ltb-false}
-use lib.ListN.{length, take}
+use lib.ListN.{length, take, length-append, length-take}
 use lib.Seq.{slice, slice-empty, take-all}
 use Rattle.engine.specs.Tables.{Tables, longEnough}
 use Rattle.session.specs.Meaning.{lineRoom}
-use Rattle.session.specs.Stream.{Running, fedAll}
+use Rattle.session.specs.Stream.{Running, opened, fedAll}
 use Rattle.session.specs.Contracts.{Held, Shown, Says, lineLimit, OpenEnsures, FeedEnsures, finishRoom, FinishEnsures}
-use Rattle.session.specs.Whole.{Fed, none, more, Reached, ReachedSome, Carries, CarriesSome, CarriesFront, RanSome}
+use Rattle.session.specs.Whole.{Fed, none, more, Reached, ReachedSome, ReachedLimit, Carries, CarriesSome, CarriesFront, CarriesLimit, RanSome}
 use Rattle.session.proofs.Slices.{slice-then}
+use Rattle.session.proofs.Streaming.{lines-few}
+use Rattle.session.proofs.Whole.{reached-shown}
 
 -- the same calls, of bytes and text that are equal to these
 fed-as : {h h′ : Held} {xs ys s t : List ℕ} → xs ≡ ys → s ≡ t → Fed h xs s h′ → Fed h ys t h′
@@ -34,10 +36,10 @@ progress {chunk} {old} {new} {from} {to} {written} {h} {h′} r f sh room byte n
     go : (b : Bool) → ltb from to ≡ b → from < to
     go true e = ltb-true from to e
     go false e =
-        let here : to ≡ from = omega (arith, f .onward, ltb-false from to e) in
+        let here : to ≡ from = omega (arith, f .taken .onward, ltb-false from to e) in
         let nothing : slice from to chunk ≡ [] = ap (λ (n : ℕ). slice from n chunk) here ∙ slice-empty from chunk in
-        let says : Says (fedAll r []) h′ old 0 new written = subst (λ (l : List ℕ). Says (fedAll r l) h′ old 0 new written) nothing (f .streams .says r sh) in
-        let still : lineLimit ≤ h′ .session .lines = f .stops (omega arith) (omega (arith, says .text .ends)) in
+        let says : Says (fedAll r []) h′ old 0 new written = subst (λ (l : List ℕ). Says (fedAll r l) h′ old 0 new written) nothing (f .taken .streams .says r sh) in
+        let still : lineLimit ≤ h′ .session .lines = f .stops r sh (omega arith) (omega (arith, says .text .ends)) in
         omega (arith, still, says .shown .lines, sh .lines)
 
 -- ---- a program's turns
@@ -86,27 +88,65 @@ carries-next {chunk} {old} {new} {from} {to} {written} {h₀} {h} {h′} l p f =
     on : (t : Tables) (input : List ℕ) → Reached t input h₀ → Reached t (input ++ slice 0 to chunk) h′
     on t input q =
         reached-as
-        (append-assoc input (slice 0 from chunk) (slice from to chunk) ∙ ap (λ (l : List ℕ). input ++ l) (slice-then 0 from to chunk (omega arith) (f .onward) (f .inside l)))
+        (append-assoc input (slice 0 from chunk) (slice from to chunk) ∙ ap (λ (l : List ℕ). input ++ l) (slice-then 0 from to chunk (omega arith) (f .taken .onward) (f .taken .inside l)))
         (reached-then (p .on t input q) f)
 
 -- all bytes of a chunk
 pub carries-all : (chunk : List ℕ) (from : ℕ) {h h′ : Held} → length chunk ≤ from → Carries (slice 0 from chunk) h h′ → Carries chunk h h′
 carries-all chunk from l p = carries-as (take-all from chunk l) p
 
--- nothing is some bytes
-pub some-none : (h : Held) → CarriesSome h h
-some-none h = record { bytes = []; carries = carries-nothing h }
+-- ---- some bytes
 
--- some bytes, and then the front of a buffer
-pub some-then : {buffer : List ℕ} {h h′ h″ : Held} → CarriesSome h h′ → CarriesFront buffer h′ h″ → CarriesSome h h″
-some-then {buffer} {h} {h′} {h″} p q = record { bytes = p .bytes ++ take (q .count) buffer; carries = record { on = on } }
+pub some-none : (h : Held) → CarriesSome 0 h h
+some-none h = record { bytes = []; carries = carries-nothing h; many = omega arith }
+
+-- so many at least, or fewer
+pub some-fewer : {m n : ℕ} {h h′ : Held} → m ≤ n → CarriesSome n h h′ → CarriesSome m h h′
+some-fewer l p = record { bytes = p .bytes; carries = p .carries; many = omega (arith, p .many) }
+
+-- some bytes, and then the front of a buffer: one more at least
+pub some-then : {n : ℕ} {buffer : List ℕ} {h h′ h″ : Held} → CarriesSome n h h′ → CarriesFront buffer h′ h″ → CarriesSome (n + 1) h h″
+some-then {n} {buffer} {h} {h′} {h″} p q =
+    record {
+      bytes = p .bytes ++ take (q .count) buffer;
+      carries = record { on = on };
+      many = omega (arith, length-append (p .bytes) (take (q .count) buffer), length-take (q .count) buffer, p .many, q .some, q .inside);
+    }
   where
     on : (t : Tables) (input : List ℕ) → Reached t input h → Reached t (input ++ (p .bytes ++ take (q .count) buffer)) h″
     on t input r = reached-as (append-assoc input (p .bytes) (take (q .count) buffer)) (q .carries .on t (input ++ p .bytes) (p .carries .on t input r))
 
 -- some bytes, from the opening on
-pub some-reached : {t : Tables} {h h′ : Held} → Reached t [] h → CarriesSome h h′ → ReachedSome t h′
-some-reached {t} p q = record { input = q .bytes; reached = q .carries .on t [] p }
+pub some-reached : {n : ℕ} {t : Tables} {h h′ : Held} → Reached t [] h → CarriesSome n h h′ → ReachedSome t h′
+some-reached {t = t} p q = record { input = q .bytes; reached = q .carries .on t [] p }
+
+-- ---- so many that they come to the limit
+
+pub limit-some : {n : ℕ} {h h′ : Held} → lineLimit ≤ n → CarriesSome n h h′ → CarriesLimit h h′
+limit-some {n} l p =
+    record { on = λ t input r. record { input = input ++ p .bytes; reached = p .carries .on t input r; many = omega (arith, length-append input (p .bytes), p .many) } }
+
+pub limit-then : {n : ℕ} {h h′ h″ : Held} → CarriesSome n h h′ → CarriesLimit h′ h″ → CarriesLimit h h″
+limit-then p q = record { on = λ t input r. q .on t (input ++ p .bytes) (p .carries .on t input r) }
+
+-- where a call has room and takes no byte, there were so many
+pub limit-stopped : {chunk old new : List ℕ} {from to written : ℕ} {h₀ h h′ : Held} → lineRoom ≤ length old → from < length chunk → to ≤ from
+    → Carries (slice 0 from chunk) h₀ h → FeedEnsures chunk from h old h′ to new written → CarriesLimit h₀ h′
+limit-stopped {chunk} {old} {new} {from} {to} {written} {h₀} {h} {h′} room byte still p f = record { on = on }
+  where
+    on : (t : Tables) (input : List ℕ) → Reached t input h₀ → ReachedLimit t h′
+    on t input q =
+        let before : Reached t (input ++ slice 0 from chunk) h = p .on t input q in
+        let shown : Shown ((fedAll opened (input ++ slice 0 from chunk)) .running) h = reached-shown before in
+        record {
+          input = (input ++ slice 0 from chunk) ++ slice from to chunk;
+          reached = reached-then before f;
+          many = omega (arith, at-limit (ltb (h .session .lines) lineLimit) refl shown, shown .lines, lines-few (input ++ slice 0 from chunk) opened, length-append (input ++ slice 0 from chunk) (slice from to chunk));
+        }
+      where
+        at-limit : (b : Bool) → ltb (h .session .lines) lineLimit ≡ b → {r : Running} → Shown r h → lineLimit ≤ h .session .lines
+        at-limit true e {r} sh = absurd (omega (arith, progress r f sh room byte (ltb-true (h .session .lines) lineLimit e)))
+        at-limit false e sh = ltb-false (h .session .lines) lineLimit e
 
 -- finished
 pub ran-some : {t left : Tables} {h : Held} {old new : List ℕ} {written : ℕ} → finishRoom ≤ length old → ReachedSome t h → FinishEnsures h old left new written → RanSome t left new

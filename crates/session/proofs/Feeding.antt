@@ -25,7 +25,7 @@ use Rattle.parse.specs.Fields.{until}
 use Rattle.parse.specs.Lines.{lineLength, parsed}
 use Rattle.parse.proofs.Reading.{too-long}
 use Rattle.print.specs.Appended.{Appended}
-use Rattle.print.proofs.Appending.{appended-none, appended-then, appended-as}
+use Rattle.print.proofs.Appending.{appended-none, appended-then, appended-as, appends-none, appends-then}
 use Rattle.session.specs.declared.kept.Kept.{Kept}
 use Rattle.session.specs.declared.stream.Session.{Session}
 use Rattle.session.specs.Meaning.{answerTable, lineStep, printed, lineRoom}
@@ -68,6 +68,7 @@ module _ (s : Session) (t t′ : Tables) (line : Line) (o : Answered) (places : 
         unchanged = λ r sh k e. called .unchanged k (called .agrees (r .position .state) (sh .represents) ∙ ap (λ (x : Line). (lineStep (r .position .state) x) .outcome) (asked r sh) ∙ e);
         counts = el;
         room = room;
+        puts = record { bytes = printed n lines (readingOutcome o places); appended = text };
         kept = called .kept;
       }
     where
@@ -161,13 +162,14 @@ module _ (chunk : List ℕ) (from to : ℕ) (is : to ≡ from + until 10 (drop f
     line-kept old at =
         record {
           says = λ r sh. rw (fed-part r) (record { shown = longer r sh; text = appended-none old at });
+          puts = appends-none old at;
           kept = tables-same t;
         }
 
     -- the line ends in the chunk
     pub line-taken : {h : Held} {old new : List ℕ} {at next : ℕ} → to < length chunk → LineEnsures (held s′ t) old at h new next
         → Streams (slice from (to + 1) chunk) (held s t) old at h new next
-    line-taken {h} {old} {new} {at} {next} l p = record { says = says; kept = p .kept }
+    line-taken {h} {old} {new} {at} {next} l p = record { says = says; puts = p .puts; kept = p .kept }
       where
         bytes : List ℕ
         bytes = slice from to chunk
@@ -186,13 +188,14 @@ module _ (chunk : List ℕ) (from to : ℕ) (is : to ≡ from + until 10 (drop f
 
 pub streams-none : (chunk : List ℕ) (from : ℕ) (h : Held) (old : List ℕ) (at : ℕ) → Streams (slice from from chunk) h old at h old at
 streams-none chunk from h old at =
-    rw (slice-empty from chunk) (record { says = λ r sh. record { shown = sh; text = appended-none old at }; kept = tables-same (h .tables) })
+    rw (slice-empty from chunk) (record { says = λ r sh. record { shown = sh; text = appended-none old at }; puts = appends-none old at; kept = tables-same (h .tables) })
 
 streams-then : {xs ys : List ℕ} {h i j : Held} {old mid new : List ℕ} {at next last : ℕ}
     → Streams xs h old at i mid next → Streams ys i mid next j new last → Streams (xs ++ ys) h old at j new last
 streams-then {xs} {ys} {h} {i} {j} {old} {mid} {new} {at} {next} {last} p q =
     record {
       says = says;
+      puts = appends-then (p .puts) (q .puts);
       kept = tables-then (p .kept) (q .kept);
     }
   where

@@ -19,12 +19,12 @@ use Rattle.engine.proofs.Keeping.{tables-same}
 use Rattle.parse.specs.Lines.{parsed}
 use Rattle.print.specs.Lines.{totalsLine, totalsRoom}
 use Rattle.print.specs.Appended.{Appended}
-use Rattle.print.proofs.Appending.{appended-none, appended-then, appended-as}
+use Rattle.print.proofs.Appending.{appended-none, appended-then, appended-as, appends-none, appends-then}
 use Rattle.session.specs.declared.kept.Kept.{Kept}
 use Rattle.session.specs.declared.stream.Session.{Session}
 use Rattle.session.specs.Meaning.{lineReported, finished, totalsText, lineRoom}
 use Rattle.session.specs.Stream.{Running, lineEnded, begun, ended, keptLength, keptLine}
-use Rattle.session.specs.Contracts.{Held, held, machineOf, Shown, Says, lineLimit, goesOn, LineEnsures, OpenEnsures, finishRoom, LastEnsures, FinishEnsures}
+use Rattle.session.specs.Contracts.{Held, held, machineOf, RefusesEnsures, Shown, Says, lineLimit, goesOn, LineEnsures, OpenEnsures, finishRoom, LastEnsures, FinishEnsures}
 
 -- ---- the first session
 
@@ -89,6 +89,7 @@ module _ (s : Session) (t : Tables) (old : List ℕ) (room : keptLength ≤ leng
         line = λ r sh few b. absurd (false≢true (sym (none _ refl few) ∙ begun-kept (s .kept) (r .line) room (sh .line) ∙ b));
         none = λ r sh b. (refl, appended-none old 0);
         room = omega arith;
+        puts = appends-none old 0;
         kept = tables-same t;
       }
 
@@ -98,6 +99,7 @@ module _ (s : Session) (t : Tables) (old : List ℕ) (room : keptLength ≤ leng
         line = λ r sh few e. p .says r sh;
         none = λ r sh e. absurd (false≢true (sym e ∙ sym (begun-kept (s .kept) (r .line) room (sh .line)) ∙ b));
         room = omega (arith, p .room);
+        puts = p .puts;
         kept = p .kept;
       }
 
@@ -114,13 +116,15 @@ ended-by : (r : Running) (b : Bool) → begun (r .line) ≡ b → ended r ≡ co
 unfolding ended
 ended-by r b e = ap (λ (x : Bool). cond x (finished (lineReported (r .position) (parsed (r .line)))) (totalsText (r .position .state))) e
 
-pub finishes : (h h′ : Held) (old mid new : List ℕ) (next written : ℕ) → LastEnsures h old h′ mid next → finishRoom ≤ length old → length new ≡ length old
+pub finishes : (h h′ : Held) (old mid new : List ℕ) (next written : ℕ) {refuses : Bool} → RefusesEnsures (machineOf h) refuses → refuses ≡ false → LastEnsures h old h′ mid next → finishRoom ≤ length old → length new ≡ length old
     → (Appended mid next (totalsLine (h′ .session .state .count) (h′ .session .state .closed) (h′ .session .state .maxima .comparisons) (h′ .session .state .minima .comparisons)) new written) × (written ≤ next + totalsRoom)
     → FinishEnsures h old (h′ .tables) new written
-finishes h h′ old mid new next written last room size (text, end) =
+finishes h h′ old mid new next written told passed last room size (text, end) =
     record {
       says = λ r sh few long. says r sh few (begun (r .line)) refl;
       short = λ l. absurd (omega arith);
+      refuses = λ e. absurd (false≢true (sym passed ∙ told .always e));
+      puts = appends-then (last .puts) (record { bytes = _; appended = text });
       fits = omega (arith, last .room, end, size);
       kept = last .kept;
     }
@@ -133,12 +137,14 @@ finishes h h′ old mid new next written last room size (text, end) =
         let none : (h′ ≡ h) × Appended old 0 [] mid next = last .none r sh e in
         appended-as (sym (ended-by r false e)) (appended-then (none .1) (appended-as (totals-are (r .position .state) (machineOf h′) (subst (λ (x : Held). Represents (r .position .state) (machineOf x)) (sym (none .0)) (sh .represents))) text))
 
--- an output without room
-pub no-finish : (h : Held) (old : List ℕ) → length old < finishRoom → FinishEnsures h old (h .tables) old 0
-no-finish h old l =
+-- nothing is printed: the output has no room, or no session is shown
+pub no-finish : (h : Held) (old : List ℕ) → ((r : Running) → Shown r h → finishRoom ≤ length old → ⊥) → FinishEnsures h old (h .tables) old 0
+no-finish h old never =
     record {
-      says = λ r sh few long. absurd (omega arith);
+      says = λ r sh few long. absurd (never r sh long);
       short = λ k. (refl, (refl, refl));
+      refuses = λ e. (refl, (refl, refl));
+      puts = appends-none old 0;
       fits = omega arith;
       kept = tables-same (h .tables);
     }

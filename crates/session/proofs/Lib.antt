@@ -4,6 +4,7 @@ pub mod Keeping
 pub mod Calling
 pub mod Reporting
 pub mod Feeding
+pub mod Refusing
 pub mod Finishing
 pub mod Rereading
 pub mod Whole

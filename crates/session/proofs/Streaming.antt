@@ -1,10 +1,12 @@
 -- Bytes that are fed one after the other print what the lines of the input do.
 -- Assumes nothing.
-use Prim.Native.Nat.{ℕ}
+use Prim.Native.Nat.{ℕ, _+_, _≤_}
+use native.Mathlib.Omega.{arith}
 use mathlib.Core.Path.{_≡_, refl, sym, ap, _∙_}
 use mathlib.Core.Bool.{Bool, true, false, cond}
 use mathlib.Core.List.{List, [], _∷_, _++_, append-assoc, append-nil}
 use lib.Dec.{eqb}
+use lib.ListN.{length}
 use Rattle.parse.specs.Fields.{onto}
 use Rattle.parse.specs.Lines.{parsed}
 use Rattle.session.specs.Meaning.{Position, lines, lineReported, linesReported, fresh, finished, totalsText, sessionOutput}
@@ -89,3 +91,16 @@ fed-append r (x ∷ xs) ys =
     ap (following ((fed r x) .text)) (fed-append ((fed r x) .running) xs ys)
     ∙ ap (λ (t : List ℕ). record { running = (fedAll ((fedAll ((fed r x) .running) xs) .running) ys) .running; text = t })
     (sym (append-assoc ((fed r x) .text) ((fedAll ((fed r x) .running) xs) .text) ((fedAll ((fedAll ((fed r x) .running) xs) .running) ys) .text)))
+
+-- ---- how many lines
+
+-- no more lines end than there are bytes
+pub lines-few : (bs : List ℕ) (r : Running) → (fedAll r bs) .running .position .lines ≤ r .position .lines + length bs
+unfolding fed
+lines-few [] r = omega arith
+lines-few (b ∷ bs) r = go (eqb b 10) (lines-few bs)
+  where
+    go : (t : Bool) → ((q : Running) → (fedAll q bs) .running .position .lines ≤ q .position .lines + length bs)
+        → (fedAll ((cond t (lineEnded r) (extended r (b ∷ []))) .running) bs) .running .position .lines ≤ r .position .lines + length (b ∷ bs)
+    go true ih = omega (arith, ih ((lineEnded r) .running))
+    go false ih = omega (arith, ih ((extended r (b ∷ [])) .running))

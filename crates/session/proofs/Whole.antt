@@ -9,7 +9,8 @@ use lib.Seq.{slice}
 use Rattle.print.specs.Appended.{Appended}
 use Rattle.session.specs.Stream.{Running, Streamed, opened, following, fedAll, ended}
 use Rattle.session.specs.Contracts.{Held, Shown, Says, lineLimit}
-use Rattle.session.specs.Whole.{Fed, none, more, WholeSession}
+use Rattle.engine.specs.Tables.{Tables}
+use Rattle.session.specs.Whole.{Fed, none, more, Begun, Reached, WholeSession}
 use Rattle.session.proofs.Streaming.{whole-input, fed-append}
 
 -- what calls of feed come to, from what shows the running session r
@@ -26,8 +27,8 @@ fed-all : {h h′ : Held} {input text : List ℕ} (r : Running) → Fed h input 
 fed-all r none sh few = record { shown = sh; text = refl; few = few }
 fed-all r (more {h} {h′} {h″} {chunk} {old} {new} {input} {text} {from} {to} {written} f rest) sh few =
     let bytes : List ℕ = slice from to chunk in
-    let says : Says (fedAll r bytes) h′ old 0 new written = f .streams .says r sh in
-    let then : After ((fedAll r bytes) .running) input text h″ = fed-all ((fedAll r bytes) .running) rest (says .shown) (f .few few) in
+    let says : Says (fedAll r bytes) h′ old 0 new written = f .taken .streams .says r sh in
+    let then : After ((fedAll r bytes) .running) input text h″ = fed-all ((fedAll r bytes) .running) rest (says .shown) (f .taken .few few) in
     let same : fedAll r (bytes ++ input) ≡ following ((fedAll r bytes) .text) (fedAll ((fedAll r bytes) .running) input) = fed-append r bytes input in
     record {
       shown = rw same (then .shown);
@@ -35,10 +36,17 @@ fed-all r (more {h} {h′} {h″} {chunk} {old} {new} {input} {text} {from} {to}
       few = then .few;
     }
 
+-- from the opening on
+begun-all : {input text : List ℕ} {h : Held} → Begun input text h → After opened input text h
+begun-all b = fed-all opened (b .feeds) (b .opens .shows (b .long)) (omega (arith, b .opens .few))
+
+pub reached-shown : {lent : Tables} {input : List ℕ} {h : Held} → Reached lent input h → Shown ((fedAll opened input) .running) h
+reached-shown p = (begun-all (p .begun)) .shown
+
 -- the claim
 pub whole-session : WholeSession
 whole-session input output ran =
-    let fed : After opened input (ran .text) (ran .last) = fed-all opened (ran .begun .feeds) (ran .begun .opens .shows (ran .begun .long)) (omega (arith, ran .begun .opens .few)) in
+    let fed : After opened input (ran .text) (ran .last) = begun-all (ran .begun) in
     ran .all
     ∙ ap (λ (t : List ℕ). ran .text ++ t) (front (ran .finish .says ((fedAll opened input) .running) (fed .shown) (fed .few) (ran .room)))
     ∙ ap (λ (t : List ℕ). t ++ ended ((fedAll opened input) .running)) (fed .text)

@@ -2,7 +2,7 @@
 -- Assumes nothing.
 use Prim.Native.Nat.{ℕ, _+_, _*_, _≤_, _<_}
 use mathlib.Core.Path.{_≡_}
-use mathlib.Core.Bool.{Bool, true, false, _&&_}
+use mathlib.Core.Bool.{Bool, true, false, not, _&&_, _||_}
 use mathlib.Core.List.{List, []}
 use lib.Dec.{leb, ltb}
 use lib.IntN.{ℤ}
@@ -19,11 +19,11 @@ use Rattle.engine.specs.declared.calls.Reply.{Reply}
 use Rattle.engine.specs.Tables.{Tables, longEnough, TablesKept}
 use Rattle.engine.specs.Machine.{Machine, machine, Represents}
 use Rattle.engine.specs.Outcomes.{readingOutcome}
-use Rattle.engine.specs.Contracts.{zeroedTables}
+use Rattle.engine.specs.Contracts.{zeroedTables, listDamaged}
 use Rattle.parse.specs.declared.line.Line.{Line}
 use Rattle.parse.specs.Lines.{parsed}
 use Rattle.print.specs.Lines.{totalsRoom}
-use Rattle.print.specs.Appended.{Appended}
+use Rattle.print.specs.Appended.{Appended, AppendedSome}
 use Rattle.session.specs.declared.call.Called.{Called}
 use Rattle.session.specs.declared.kept.Kept.{Kept}
 use Rattle.session.specs.declared.stream.Session.{Session}
@@ -54,6 +54,17 @@ pub record CallEnsures (line : Line) (m : Machine) (o : Answered) (places : List
   -- a refused line changes nothing
   pub unchanged : (k : ℕ) → readingOutcome o places ≡ refused k → m′ ≡ m
   pub kept : TablesKept (m .tables) (m′ .tables)
+
+-- ---- checks 1 and 2
+
+-- every call but start is refused: a table is too short, or the query list is damaged as document 01 lists it
+unfoldable pub refusesAll : Machine → Bool
+refusesAll m = not (longEnough (m .tables)) || listDamaged m
+
+-- whether every call on m is refused: always there, and never where m represents a state of the model
+pub record RefusesEnsures (m : Machine) (refuses : Bool) : Type 0 where
+  pub always : refusesAll m ≡ true → refuses ≡ true
+  pub never : (s : model.State) → Represents s m → refuses ≡ false
 
 -- ---- what is held between two bytes
 
@@ -102,6 +113,8 @@ pub record LineEnsures (h : Held) (old : List ℕ) (at : ℕ) (h′ : Held) (new
   pub unchanged : (r : Running) → Shown r h → (k : ℕ) → (lineStep (r .position .state) (parsed (r .line))) .outcome ≡ refused k → machineOf h′ ≡ machineOf h
   pub counts : h′ .session .lines ≡ h .session .lines + 1
   pub room : next ≤ at + lineRoom
+  -- whatever was held: no other place of the output is written, and none beyond the first 4,096 of a table
+  pub puts : AppendedSome old at new next
   pub kept : TablesKept (h .tables) (h′ .tables)
 
 -- ---- bytes
@@ -109,6 +122,8 @@ pub record LineEnsures (h : Held) (old : List ℕ) (at : ℕ) (h′ : Held) (new
 -- these bytes of the input, one after the other
 pub record Streams (bytes : List ℕ) (h : Held) (old : List ℕ) (at : ℕ) (h′ : Held) (new : List ℕ) (next : ℕ) : Type 0 where
   pub says : (r : Running) → Shown r h → Says (fedAll r bytes) h′ old at new next
+  -- whatever was held: no other place of the output is written, and none beyond the first 4,096 of a table
+  pub puts : AppendedSome old at new next
   pub kept : TablesKept (h .tables) (h′ .tables)
 
 -- the rest of a line, or of a chunk if that ends before: the bytes from a place up to another, which is one further at least
@@ -128,15 +143,26 @@ pub record OpenEnsures (t : Tables) (h : Held) : Type 0 where
   pub short : longEnough t ≡ false → h .tables ≡ t
   pub few : h .session .lines ≡ 0
 
--- feed, of a chunk from a place on: the bytes up to `to` are taken, and what they print stands in the first places of the output
-pub record FeedEnsures (chunk : List ℕ) (from : ℕ) (h : Held) (old : List ℕ) (h′ : Held) (to : ℕ) (new : List ℕ) (written : ℕ) : Type 0 where
+-- bytes of a chunk, from a place on: those up to `to` are taken, and what they print stands in the first places of the output
+pub record TakenEnsures (chunk : List ℕ) (from : ℕ) (h : Held) (old : List ℕ) (h′ : Held) (to : ℕ) (new : List ℕ) (written : ℕ) : Type 0 where
   pub streams : Streams (slice from to chunk) h old 0 h′ new written
   pub onward : from ≤ to
   pub inside : from ≤ length chunk → to ≤ length chunk
-  -- bytes are left only where there is no room for what a line prints at most, or the lines have come to their limit
-  pub stops : to < length chunk → written + lineRoom ≤ length old → lineLimit ≤ h′ .session .lines
   pub few : h .session .lines ≤ lineLimit → h′ .session .lines ≤ lineLimit
   pub fits : written ≤ length new
+
+-- one line after the other: bytes are left only where there is no room for what a line prints at most, or the lines have come to their limit
+pub record LinesEnsures (chunk : List ℕ) (from : ℕ) (h : Held) (old : List ℕ) (h′ : Held) (to : ℕ) (new : List ℕ) (written : ℕ) : Type 0 where
+  pub taken : TakenEnsures chunk from h old h′ to new written
+  pub stops : to < length chunk → written + lineRoom ≤ length old → lineLimit ≤ h′ .session .lines
+
+-- feed
+pub record FeedEnsures (chunk : List ℕ) (from : ℕ) (h : Held) (old : List ℕ) (h′ : Held) (to : ℕ) (new : List ℕ) (written : ℕ) : Type 0 where
+  pub taken : TakenEnsures chunk from h old h′ to new written
+  -- a session takes all bytes that it has room and line numbers for
+  pub stops : (r : Running) → Shown r h → to < length chunk → written + lineRoom ≤ length old → lineLimit ≤ h′ .session .lines
+  -- where the engine would refuse every call, no byte is taken, nothing is printed and nothing changes
+  pub refuses : refusesAll (machineOf h) ≡ true → (to ≡ from) × ((h′ ≡ h) × ((written ≡ 0) × (new ≡ old)))
 
 -- what the end of the input prints at most
 abbrev pub finishRoom : ℕ
@@ -147,12 +173,16 @@ pub record LastEnsures (h : Held) (old : List ℕ) (h′ : Held) (new : List ℕ
   pub line : (r : Running) → Shown r h → h .session .lines ≤ lineLimit → begun (r .line) ≡ true → Says (lineEnded r) h′ old 0 new next
   pub none : (r : Running) → Shown r h → begun (r .line) ≡ false → (h′ ≡ h) × Appended old 0 [] new next
   pub room : next ≤ lineRoom
+  pub puts : AppendedSome old 0 new next
   pub kept : TablesKept (h .tables) (h′ .tables)
 
 -- finish: what the end of the input prints stands in the first places of the output
 pub record FinishEnsures (h : Held) (old : List ℕ) (t′ : Tables) (new : List ℕ) (written : ℕ) : Type 0 where
   pub says : (r : Running) → Shown r h → h .session .lines ≤ lineLimit → finishRoom ≤ length old → Appended old 0 (ended r) new written
-  -- an output that is too short stays as it is, and so do the tables
-  pub short : length old < finishRoom → (written ≡ 0) × ((new ≡ old) × (t′ ≡ h .tables))
+  -- where the output is too short, or the engine would refuse every call, nothing is printed and nothing changes
+  pub short : length old < finishRoom → (t′ ≡ h .tables) × ((written ≡ 0) × (new ≡ old))
+  pub refuses : refusesAll (machineOf h) ≡ true → (t′ ≡ h .tables) × ((written ≡ 0) × (new ≡ old))
+  -- whatever was held: no other place of the output is written, and none beyond the first 4,096 of a table
+  pub puts : AppendedSome old 0 new written
   pub fits : written ≤ length new
   pub kept : TablesKept (h .tables) t′

@@ -9,7 +9,7 @@ use lib.ListN.{length, take}
 use lib.Seq.{slice}
 use Rattle.engine.specs.Tables.{Tables, longEnough}
 use Rattle.session.specs.Meaning.{sessionOutput}
-use Rattle.session.specs.Contracts.{Held, OpenEnsures, FeedEnsures, finishRoom, FinishEnsures}
+use Rattle.session.specs.Contracts.{Held, lineLimit, OpenEnsures, FeedEnsures, finishRoom, FinishEnsures}
 
 -- calls of feed, each on what the call before left: the bytes that they took, and what stood at the front of the output after each, one after the other
 pub data Fed : Held → List ℕ → List ℕ → Held → Type 0 where
@@ -57,20 +57,32 @@ pub record ReachedSome (lent : Tables) (h : Held) : Type 0 where
   pub input : List ℕ
   pub reached : Reached lent input h
 
+-- the same, of 2^64 - 2 bytes or more: as many as there are numbers for lines before the last
+pub record ReachedLimit (lent : Tables) (h : Held) : Type 0 where
+  pub input : List ℕ
+  pub reached : Reached lent input h
+  pub many : lineLimit ≤ length input
+
 -- from one to the other these bytes are fed, whatever input came before
 pub record Carries (bytes : List ℕ) (h h′ : Held) : Type 0 where
   pub on : (lent : Tables) (input : List ℕ) → Reached lent input h → Reached lent (input ++ bytes) h′
 
--- from one to the other some bytes are fed
-pub record CarriesSome (h h′ : Held) : Type 0 where
+-- from one to the other some bytes are fed, so many at least
+pub record CarriesSome (least : ℕ) (h h′ : Held) : Type 0 where
   pub bytes : List ℕ
   pub carries : Carries bytes h h′
+  pub many : least ≤ length bytes
 
 -- from one to the other a byte or more are fed, from the front of this buffer
 pub record CarriesFront (buffer : List ℕ) (h h′ : Held) : Type 0 where
   pub count : ℕ
   pub some : 0 < count
+  pub inside : count ≤ length buffer
   pub carries : Carries (take count buffer) h h′
+
+-- from one to the other so many bytes are fed that they come to the limit with what came before
+pub record CarriesLimit (h h′ : Held) : Type 0 where
+  pub on : (lent : Tables) (input : List ℕ) → Reached lent input h → ReachedLimit lent h′
 
 -- a whole session of some input: opened on these tables, and the tables and the output that its end left
 pub record RanSome (lent left : Tables) (new : List ℕ) : Type 0 where

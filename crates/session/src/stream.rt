@@ -2,6 +2,7 @@
 use crate::call::call;
 use crate::kept::Kept;
 use crate::report::report;
+use engine::calls::TotalsReply;
 use engine::state::State;
 use parse::fields::find_byte;
 use print::line::ANSWER_ROOM;
@@ -13,8 +14,9 @@ ghost use mathlib.Core.Path.{_≡_};
 ghost use Prim.Native.Nat.{_+_, _<_, _≤_};
 ghost use lib.ListN.{length};
 ghost use Rattle.engine.specs.Tables.{tables};
+ghost use Rattle.engine.specs.Machine.{machine};
 ghost use Rattle.session.specs.Meaning.{answerTable, lineRoom};
-ghost use Rattle.session.specs.Contracts.{held, keeping, lineLimit, goesOn, OpenEnsures, LineEnsures, RestEnsures, FeedEnsures, FinishEnsures, LastEnsures};
+ghost use Rattle.session.specs.Contracts.{held, keeping, lineLimit, goesOn, RefusesEnsures, OpenEnsures, LineEnsures, RestEnsures, LinesEnsures, FeedEnsures, FinishEnsures, LastEnsures};
 
 // The places of the answer table: it is long enough for 32 answers.
 const ANSWER_TABLE: usize = 128;
@@ -95,6 +97,35 @@ impl Session {
             queries,
             lines: self.lines,
             kept,
+        }
+    }
+
+    // Whether the engine refuses every call on entry: checks 1 and 2, as totals has no other.
+    pub(crate) fn refuses(
+        self,
+        starts: &[Count],
+        sums: &[i64],
+        max_starts: &[Count],
+        max_values: &[i32],
+        min_starts: &[Count],
+        min_values: &[i32],
+    ) -> bool
+        ensures { λ r. ⌜ RefusesEnsures (machine (self .state) (self .queries) (tables (now (starts .entry)) (now (sums .entry)) (now («max_starts» .entry)) (now («max_values» .entry)) (now («min_starts» .entry)) (now («min_values» .entry)))) r ⌝ }
+    {
+        let state = self.state;
+        let queries = self.queries;
+        match engine::calls::totals(
+            state,
+            queries,
+            starts,
+            sums,
+            max_starts,
+            max_values,
+            min_starts,
+            min_values,
+        ) {
+            TotalsReply::Totals(_, _, _, _) => false,
+            TotalsReply::Refused(_) => true,
         }
     }
 }
@@ -219,9 +250,8 @@ fn goes_on(to: usize, size: usize, at: usize, room: usize, lines: u64) -> bool
     lines < LINE_LIMIT
 }
 
-// Takes bytes of a chunk from a place on, and puts what they print at the front of the output. It takes them all but where the output has no more room for what a
-// line may print, or the lines have come to their limit.
-pub fn feed(
+// The lines of a chunk from a place on, one after the other, while there is a byte, room and a number.
+fn feed_lines(
     session: Session,
     starts: &mut [Count],
     sums: &mut [i64],
@@ -233,7 +263,7 @@ pub fn feed(
     from: usize,
     out: &mut [u8],
 ) -> Taken
-    ensures { λ r. ⌜ FeedEnsures (now (chunk .entry)) from
+    ensures { λ r. ⌜ LinesEnsures (now (chunk .entry)) from
         (held session (tables (now (starts .entry)) (now (sums .entry)) (now («max_starts» .entry)) (now («max_values» .entry)) (now («min_starts» .entry)) (now («min_values» .entry)))) (now (out .entry))
         (held (r .session) (tables (now (starts .exit)) (now (sums .exit)) (now («max_starts» .exit)) (now («max_values» .exit)) (now («min_starts» .exit)) (now («min_values» .exit)))) (r .to) (now (out .exit)) (r .at) ⌝ }
 {
@@ -265,6 +295,45 @@ pub fn feed(
         to,
         at,
     }
+}
+
+// Takes bytes of a chunk from a place on, and puts what they print at the front of the output. It takes them all but where the output has no more room for what a
+// line may print, or the lines have come to their limit; and none where the engine refuses every call.
+pub fn feed(
+    session: Session,
+    starts: &mut [Count],
+    sums: &mut [i64],
+    max_starts: &mut [Count],
+    max_values: &mut [i32],
+    min_starts: &mut [Count],
+    min_values: &mut [i32],
+    chunk: &[u8],
+    from: usize,
+    out: &mut [u8],
+) -> Taken
+    ensures { λ r. ⌜ FeedEnsures (now (chunk .entry)) from
+        (held session (tables (now (starts .entry)) (now (sums .entry)) (now («max_starts» .entry)) (now («max_values» .entry)) (now («min_starts» .entry)) (now («min_values» .entry)))) (now (out .entry))
+        (held (r .session) (tables (now (starts .exit)) (now (sums .exit)) (now («max_starts» .exit)) (now («max_values» .exit)) (now («min_starts» .exit)) (now («min_values» .exit)))) (r .to) (now (out .exit)) (r .at) ⌝ }
+{
+    if session.refuses(starts, sums, max_starts, max_values, min_starts, min_values) {
+        return Taken {
+            session,
+            to: from,
+            at: 0,
+        };
+    }
+    feed_lines(
+        session,
+        starts,
+        sums,
+        max_starts,
+        max_values,
+        min_starts,
+        min_values,
+        chunk,
+        from,
+        out,
+    )
 }
 
 // The last line, if it has a byte.
@@ -304,7 +373,8 @@ fn last_line(
     Ended { session, at: 0 }
 }
 
-// The end of the input: what a last line that has a byte prints, and the totals, at the front of the output. An output without room for them stays as it is.
+// The end of the input: what a last line that has a byte prints, and the totals, at the front of the output. Nothing is printed and nothing changes where the output has
+// no room for them, or the engine refuses every call.
 pub fn finish(
     session: Session,
     starts: &mut [Count],
@@ -318,6 +388,9 @@ pub fn finish(
     ensures { λ r. ⌜ FinishEnsures (held session (tables (now (starts .entry)) (now (sums .entry)) (now («max_starts» .entry)) (now («max_values» .entry)) (now («min_starts» .entry)) (now («min_values» .entry)))) (now (out .entry)) (tables (now (starts .exit)) (now (sums .exit)) (now («max_starts» .exit)) (now («max_values» .exit)) (now («min_starts» .exit)) (now («min_values» .exit))) (now (out .exit)) r ⌝ }
 {
     if out.len() < FINISH_ROOM {
+        return 0;
+    }
+    if session.refuses(starts, sums, max_starts, max_values, min_starts, min_values) {
         return 0;
     }
     let mut answers = [0i64; ANSWER_TABLE];

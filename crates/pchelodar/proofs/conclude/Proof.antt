@@ -15,7 +15,7 @@ finish-requires : tie.Need-finish-requires
 finish-requires c κs = search needs
 
 returns : tie.Need-returns
-returns c lent handed = not-ended lent _ _ (c .before .before .before .before .before .before .args .done .progress) (c .match .keys2)
+returns c lent handed = not-ended lent _ _ (c .before .before .before .before .before .before .args .done .progress) (c .match .keys2) handed
 
 slice-reshare-prefix-write-all : tie.Need-slice-reshare-prefix-write-all
 slice-reshare-prefix-write-all c = search needs

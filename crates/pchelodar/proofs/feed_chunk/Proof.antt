@@ -8,9 +8,9 @@ use Rattle.engine.specs.Tables.{tables, TablesKept}
 use Rattle.engine.proofs.Keeping.{tables-same, tables-then}
 use Rattle.session.specs.Contracts.{held}
 use Rattle.session.specs.Whole.{Carries}
-use Rattle.session.proofs.Composing.{carries-none, carries-next, carries-all}
+use Rattle.session.proofs.Composing.{carries-none, carries-next, carries-all, limit-stopped}
 use Rattle.pchelodar.specs.Contracts.{ChunkFed}
-use Rattle.pchelodar.proofs.Composing.{chunk-fed}
+use Rattle.pchelodar.proofs.Composing.{chunk-fed, chunk-limit}
 use Rattle.pchelodar.proofs.feed_chunk.Statement.{statement}
 use Rattle.pchelodar.proofs.feed_chunk.Tie as tie
 
@@ -36,12 +36,12 @@ feed-requires c κs = tt
 slice-reshare-prefix-write-all : tie.Need-slice-reshare-prefix-write-all Inv-loop μ-loop
 slice-reshare-prefix-write-all c =
     let at-feed = c .before .before .before .before .before .before .before .before .before .before .before .before in
-    omega (arith, at-feed .feed .ensures .fits)
+    omega (arith, at-feed .feed .ensures .taken .fits)
 
 slice-aggregate-write-all : tie.Need-slice-aggregate-write-all Inv-loop μ-loop
 slice-aggregate-write-all c =
     let at-feed = c .before .before .before .before .before .before .before .before .before .before .before .before .before in
-    omega (arith, at-feed .feed .ensures .fits, length-take (at-feed .feed .result .at) (at-feed .feed .last .1 .1 .1 .1 .1 .1 .1 .1 .1 .0))
+    omega (arith, at-feed .feed .ensures .taken .fits, length-take (at-feed .feed .result .at) (at-feed .feed .last .1 .1 .1 .1 .1 .1 .1 .1 .1 .0))
 
 write-all-requires : tie.Need-write-all-requires Inv-loop μ-loop
 write-all-requires c κs = tt
@@ -50,37 +50,37 @@ same-length : tie.Need-same-length Inv-loop μ-loop
 same-length c =
     let at-feed = c .before .before .before .before .before .before .before .before .before .before .before .before .before .before .before in
     let at-loop = at-feed .before .before .before .before .before .before .before .before .before in
-    (tables-then (at-loop .loop .inv .0) (at-feed .feed .ensures .streams .kept)) .starts .asLong
+    (tables-then (at-loop .loop .inv .0) (at-feed .feed .ensures .taken .streams .kept)) .starts .asLong
 
 same-length-2 : tie.Need-same-length-2 Inv-loop μ-loop
 same-length-2 c =
     let at-feed = c .before .before .before .before .before .before .before .before .before .before .before .before .before .before .before in
     let at-loop = at-feed .before .before .before .before .before .before .before .before .before in
-    (tables-then (at-loop .loop .inv .0) (at-feed .feed .ensures .streams .kept)) .sums .asLong
+    (tables-then (at-loop .loop .inv .0) (at-feed .feed .ensures .taken .streams .kept)) .sums .asLong
 
 same-length-3 : tie.Need-same-length-3 Inv-loop μ-loop
 same-length-3 c =
     let at-feed = c .before .before .before .before .before .before .before .before .before .before .before .before .before .before .before in
     let at-loop = at-feed .before .before .before .before .before .before .before .before .before in
-    (tables-then (at-loop .loop .inv .0) (at-feed .feed .ensures .streams .kept)) .maxStarts .asLong
+    (tables-then (at-loop .loop .inv .0) (at-feed .feed .ensures .taken .streams .kept)) .maxStarts .asLong
 
 same-length-4 : tie.Need-same-length-4 Inv-loop μ-loop
 same-length-4 c =
     let at-feed = c .before .before .before .before .before .before .before .before .before .before .before .before .before .before .before in
     let at-loop = at-feed .before .before .before .before .before .before .before .before .before in
-    (tables-then (at-loop .loop .inv .0) (at-feed .feed .ensures .streams .kept)) .maxValues .asLong
+    (tables-then (at-loop .loop .inv .0) (at-feed .feed .ensures .taken .streams .kept)) .maxValues .asLong
 
 same-length-5 : tie.Need-same-length-5 Inv-loop μ-loop
 same-length-5 c =
     let at-feed = c .before .before .before .before .before .before .before .before .before .before .before .before .before .before .before in
     let at-loop = at-feed .before .before .before .before .before .before .before .before .before in
-    (tables-then (at-loop .loop .inv .0) (at-feed .feed .ensures .streams .kept)) .minStarts .asLong
+    (tables-then (at-loop .loop .inv .0) (at-feed .feed .ensures .taken .streams .kept)) .minStarts .asLong
 
 same-length-6 : tie.Need-same-length-6 Inv-loop μ-loop
 same-length-6 c =
     let at-feed = c .before .before .before .before .before .before .before .before .before .before .before .before .before .before .before in
     let at-loop = at-feed .before .before .before .before .before .before .before .before .before in
-    (tables-then (at-loop .loop .inv .0) (at-feed .feed .ensures .streams .kept)) .minValues .asLong
+    (tables-then (at-loop .loop .inv .0) (at-feed .feed .ensures .taken .streams .kept)) .minValues .asLong
 
 same-length-7 : tie.Need-same-length-7 Inv-loop μ-loop
 same-length-7 c =
@@ -96,37 +96,37 @@ same-length-8 : tie.Need-same-length-8 Inv-loop μ-loop
 same-length-8 c =
     let at-feed = c .before .before .before .before .before .before .before .before .before .before .before .before .before .before .before .before in
     let at-loop = at-feed .before .before .before .before .before .before .before .before .before in
-    (tables-then (at-loop .loop .inv .0) (at-feed .feed .ensures .streams .kept)) .starts .asLong
+    (tables-then (at-loop .loop .inv .0) (at-feed .feed .ensures .taken .streams .kept)) .starts .asLong
 
 same-length-9 : tie.Need-same-length-9 Inv-loop μ-loop
 same-length-9 c =
     let at-feed = c .before .before .before .before .before .before .before .before .before .before .before .before .before .before .before .before in
     let at-loop = at-feed .before .before .before .before .before .before .before .before .before in
-    (tables-then (at-loop .loop .inv .0) (at-feed .feed .ensures .streams .kept)) .sums .asLong
+    (tables-then (at-loop .loop .inv .0) (at-feed .feed .ensures .taken .streams .kept)) .sums .asLong
 
 same-length-10 : tie.Need-same-length-10 Inv-loop μ-loop
 same-length-10 c =
     let at-feed = c .before .before .before .before .before .before .before .before .before .before .before .before .before .before .before .before in
     let at-loop = at-feed .before .before .before .before .before .before .before .before .before in
-    (tables-then (at-loop .loop .inv .0) (at-feed .feed .ensures .streams .kept)) .maxStarts .asLong
+    (tables-then (at-loop .loop .inv .0) (at-feed .feed .ensures .taken .streams .kept)) .maxStarts .asLong
 
 same-length-11 : tie.Need-same-length-11 Inv-loop μ-loop
 same-length-11 c =
     let at-feed = c .before .before .before .before .before .before .before .before .before .before .before .before .before .before .before .before in
     let at-loop = at-feed .before .before .before .before .before .before .before .before .before in
-    (tables-then (at-loop .loop .inv .0) (at-feed .feed .ensures .streams .kept)) .maxValues .asLong
+    (tables-then (at-loop .loop .inv .0) (at-feed .feed .ensures .taken .streams .kept)) .maxValues .asLong
 
 same-length-12 : tie.Need-same-length-12 Inv-loop μ-loop
 same-length-12 c =
     let at-feed = c .before .before .before .before .before .before .before .before .before .before .before .before .before .before .before .before in
     let at-loop = at-feed .before .before .before .before .before .before .before .before .before in
-    (tables-then (at-loop .loop .inv .0) (at-feed .feed .ensures .streams .kept)) .minStarts .asLong
+    (tables-then (at-loop .loop .inv .0) (at-feed .feed .ensures .taken .streams .kept)) .minStarts .asLong
 
 same-length-13 : tie.Need-same-length-13 Inv-loop μ-loop
 same-length-13 c =
     let at-feed = c .before .before .before .before .before .before .before .before .before .before .before .before .before .before .before .before in
     let at-loop = at-feed .before .before .before .before .before .before .before .before .before in
-    (tables-then (at-loop .loop .inv .0) (at-feed .feed .ensures .streams .kept)) .minValues .asLong
+    (tables-then (at-loop .loop .inv .0) (at-feed .feed .ensures .taken .streams .kept)) .minValues .asLong
 
 same-length-14 : tie.Need-same-length-14 Inv-loop μ-loop
 same-length-14 c =
@@ -135,8 +135,11 @@ same-length-14 c =
     at-feed .feed .kept .1 .1 .1 .1 .1 .1 .1 .1 .1 .0 ∙ at-loop .loop .inv .1
 
 returns-2 : tie.Need-returns-2 Inv-loop μ-loop
-unfolding ChunkFed
-returns-2 c = tt
+returns-2 c =
+    let at-feed = c .before .before .before .before .before .before .before .before .before .before .before .before .before .before .before .before in
+    let at-loop = at-feed .before .before .before .before .before .before .before .before .before in
+    let at-start = at-loop .before .before .before .before .before .before in
+    chunk-limit (at-start .args .chunk .now) (limit-stopped (omega (arith, at-start .pre, at-loop .loop .inv .1)) (at-feed .before .before .before .before .before .before .before .before .loop-test .taken) (c .if2 .taken) (at-loop .loop .inv .3) (at-feed .feed .ensures))
 
 loop-less : tie.Need-loop-less Inv-loop μ-loop
 loop-less c =
@@ -148,7 +151,7 @@ loop-again c =
     let at-feed = c .before .before .before .before .before .before .before .before .before .before .before .before .before .before .before .before in
     let at-loop = at-feed .before .before .before .before .before .before .before .before .before in
     let fed = at-feed .feed .ensures in
-    (tables-then (at-loop .loop .inv .0) (fed .streams .kept), at-feed .feed .kept .1 .1 .1 .1 .1 .1 .1 .1 .1 .0 ∙ at-loop .loop .inv .1, fed .inside (at-loop .loop .inv .2), carries-next (at-loop .loop .inv .2) (at-loop .loop .inv .3) fed)
+    (tables-then (at-loop .loop .inv .0) (fed .taken .streams .kept), at-feed .feed .kept .1 .1 .1 .1 .1 .1 .1 .1 .1 .0 ∙ at-loop .loop .inv .1, fed .taken .inside (at-loop .loop .inv .2), carries-next (at-loop .loop .inv .2) (at-loop .loop .inv .3) fed)
 
 same-length-15 : tie.Need-same-length-15 Inv-loop μ-loop
 same-length-15 c = c .before .loop .inv .0 .starts .asLong

@@ -5,17 +5,21 @@ use lib.ListN.{length}
 use borrow.Author.Needs.{needs}
 use Rattle.engine.specs.Tables.{tables}
 use Rattle.session.specs.Contracts.{held}
+use Prim.Native.Nat.{ℕ, _-_}
 use Rattle.session.specs.Whole.{CarriesSome}
 use Rattle.session.proofs.Composing.{some-none}
-use Rattle.pchelodar.specs.Contracts.{AllRead}
-use Rattle.pchelodar.proofs.Composing.{read-more, read-last}
+use Rattle.pchelodar.proofs.Composing.{read-more, read-last, reads-spent}
 use Rattle.pchelodar.proofs.read_all.Statement.{statement}
 use Rattle.pchelodar.proofs.read_all.Tie as tie
+
+-- how many reads there are at most
+abbrev readLimit : ℕ
+readLimit = 18446744073709551615
 
 abbrev Inv-loop : tie.InvT-loop
 Inv-loop starts₀ sums₀ max-starts₀ max-values₀ min-starts₀ min-values₀ chunk₀ out₀ session₀ reads₀ starts sums max-starts max-values min-starts min-values chunk out session reads =
     (length starts ≡ length starts₀) × (length sums ≡ length sums₀) × (length max-starts ≡ length max-starts₀) × (length max-values ≡ length max-values₀) × (length min-starts ≡ length min-starts₀) × (length min-values ≡ length min-values₀) × (length chunk ≡ length chunk₀) × (length out ≡ length out₀)
-    × CarriesSome (held session₀ (tables starts₀ sums₀ max-starts₀ max-values₀ min-starts₀ min-values₀)) (held session (tables starts sums max-starts max-values min-starts min-values))
+    × CarriesSome (readLimit - reads) (held session₀ (tables starts₀ sums₀ max-starts₀ max-values₀ min-starts₀ min-values₀)) (held session (tables starts sums max-starts max-values min-starts min-values))
 
 abbrev μ-loop : tie.MeasureT-loop
 μ-loop starts₀ sums₀ max-starts₀ max-values₀ min-starts₀ min-values₀ chunk₀ out₀ held₀ reads₀ starts sums max-starts max-values min-starts min-values chunk out held reads =
@@ -28,7 +32,10 @@ sub-reads : tie.Need-sub-reads Inv-loop μ-loop
 sub-reads c = omega arith
 
 read-chunk-requires : tie.Need-read-chunk-requires Inv-loop μ-loop
-read-chunk-requires c κs = tt
+read-chunk-requires c κs =
+    let at-loop = c .before .before .before .before .before .before .before .before .before in
+    let at-start = at-loop .before .before .before .before .before .before in
+    omega (arith, at-start .pre, at-loop .loop .inv .7)
 
 enum-told : tie.Need-enum-told Inv-loop μ-loop
 enum-told c = search needs
@@ -40,7 +47,7 @@ loop-again : tie.Need-loop-again Inv-loop μ-loop
 loop-again c =
     let at-read-chunk = c .before .before .before .before .before .before .before .before .before .before .before .before .before .before .before .before in
     let at-loop = at-read-chunk .before .before .before .before .before .before .before .before .before .before in
-    (at-read-chunk .read-chunk .kept .1 .0 ∙ at-loop .loop .inv .0, at-read-chunk .read-chunk .kept .1 .1 .0 ∙ at-loop .loop .inv .1, at-read-chunk .read-chunk .kept .1 .1 .1 .0 ∙ at-loop .loop .inv .2, at-read-chunk .read-chunk .kept .1 .1 .1 .1 .0 ∙ at-loop .loop .inv .3, at-read-chunk .read-chunk .kept .1 .1 .1 .1 .1 .0 ∙ at-loop .loop .inv .4, at-read-chunk .read-chunk .kept .1 .1 .1 .1 .1 .1 .0 ∙ at-loop .loop .inv .5, at-read-chunk .read-chunk .kept .1 .1 .1 .1 .1 .1 .1 .0 ∙ at-loop .loop .inv .6, at-read-chunk .read-chunk .kept .1 .1 .1 .1 .1 .1 .1 .1 .0 ∙ at-loop .loop .inv .7, read-more _ _ (c .enum-told .given .1) (at-loop .loop .inv .8) (at-read-chunk .read-chunk .ensures))
+    (at-read-chunk .read-chunk .kept .1 .0 ∙ at-loop .loop .inv .0, at-read-chunk .read-chunk .kept .1 .1 .0 ∙ at-loop .loop .inv .1, at-read-chunk .read-chunk .kept .1 .1 .1 .0 ∙ at-loop .loop .inv .2, at-read-chunk .read-chunk .kept .1 .1 .1 .1 .0 ∙ at-loop .loop .inv .3, at-read-chunk .read-chunk .kept .1 .1 .1 .1 .1 .0 ∙ at-loop .loop .inv .4, at-read-chunk .read-chunk .kept .1 .1 .1 .1 .1 .1 .0 ∙ at-loop .loop .inv .5, at-read-chunk .read-chunk .kept .1 .1 .1 .1 .1 .1 .1 .0 ∙ at-loop .loop .inv .6, at-read-chunk .read-chunk .kept .1 .1 .1 .1 .1 .1 .1 .1 .0 ∙ at-loop .loop .inv .7, read-more _ _ (omega arith) (c .enum-told .given .1) (at-loop .loop .inv .8) (at-read-chunk .read-chunk .ensures))
 
 same-length : tie.Need-same-length Inv-loop μ-loop
 same-length c =
@@ -94,7 +101,7 @@ returns : tie.Need-returns Inv-loop μ-loop
 returns c =
     let at-read-chunk = c .before .before .before .before .before .before .before .before .before .before .before .before .before .before .before in
     let at-loop = at-read-chunk .before .before .before .before .before .before .before .before .before .before in
-    read-last _ _ (at-read-chunk .read-chunk .result .progress) (at-loop .loop .inv .8) (at-read-chunk .read-chunk .ensures)
+    read-last _ _ (at-read-chunk .read-chunk .result .progress) (c .match .keys2) (at-loop .loop .inv .8) (at-read-chunk .read-chunk .ensures)
 
 same-length-9 : tie.Need-same-length-9 Inv-loop μ-loop
 same-length-9 c = c .before .loop .inv .0
@@ -121,8 +128,7 @@ same-length-16 : tie.Need-same-length-16 Inv-loop μ-loop
 same-length-16 c = c .before .loop .inv .7
 
 returns-2 : tie.Need-returns-2 Inv-loop μ-loop
-unfolding AllRead
-returns-2 c = tt
+returns-2 c = reads-spent (omega (arith, c .loop-test .left)) (c .before .loop .inv .8)
 
 pub read-all-spec : {M : Type 1} → statement M
 read-all-spec =

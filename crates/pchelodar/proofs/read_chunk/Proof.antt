@@ -15,7 +15,7 @@ same-length c = search needs
 
 returns : tie.Need-returns
 unfolding ChunkRead
-returns c = tt
+returns c = refl
 
 count-requires : tie.Need-count-requires
 count-requires c κs = search needs
@@ -66,7 +66,7 @@ returns-3 : tie.Need-returns-3
 returns-3 c =
     let at-feed-chunk = c .before .before .before .before .before .before .before .before .before .before .before in
     let at-count = at-feed-chunk .before .before .before .before .before .before .before .before .before in
-    fed-read _ (at-count .before .count .result) _ _ (at-feed-chunk .feed-chunk .result .progress) (omega (arith, at-count .if2 .left)) (at-feed-chunk .feed-chunk .ensures)
+    fed-read _ (at-count .before .count .result) _ _ (at-feed-chunk .feed-chunk .result .progress) (omega (arith, at-count .if2 .left)) (omega arith) (at-feed-chunk .feed-chunk .ensures)
 
 pub read-chunk-spec : {M : Type 1} → statement M
 read-chunk-spec =

