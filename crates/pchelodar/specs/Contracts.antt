@@ -26,7 +26,7 @@ ChunkRead buffer h h′ progress.ReadFailed = h′ ≡ h
 ChunkRead buffer h h′ progress.WriteFailed = Unit {0}
 ChunkRead buffer h h′ progress.TooLong = CarriesLimit h h′
 
--- read_all: some bytes were fed up to the end of the input, or to where it could not be read. It never stops before that but at the limit
+-- read_all: some bytes were fed up to the end of the input, or to where it could not be read. It stops before that only where a write failed, or at the limit
 unfoldable pub AllRead : Held → Held → Progress → Type 0
 AllRead h h′ progress.Onward = ⊥
 AllRead h h′ progress.InputEnded = CarriesSome 0 h h′
