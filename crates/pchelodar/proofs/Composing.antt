@@ -4,9 +4,8 @@ use Prim.Native.Nat.{ℕ, _+_, _<_, _≤_}
 use mathlib.Core.Path.{_≡_, refl, sym, subst}
 use native.Mathlib.Omega.{arith}
 use mathlib.Core.List.{List, [], _∷_}
-use mathlib.Core.Logic.{inl, inr}
 use lib.ListN.{length, take}
-use types.Run.{OneOf}
+use types.Run.{OneOf, miss}
 use denote.Enum.Declared.{tagOf}
 use Rattle.engine.specs.Tables.{Tables}
 use Rattle.session.specs.Contracts.{Held, lineLimit}
@@ -41,17 +40,10 @@ pub read-more : {m n : ℕ} (buffer : List ℕ) {h₀ h : Held} (h′ : Held) {p
 unfolding ChunkRead
 read-more buffer {h₀} {h} h′ {p} l e some r = some-fewer l (some-then some (subst (ChunkRead buffer h h′) e r))
 
--- 0 is none of these
-not-zero : OneOf (1 ∷ 2 ∷ 3 ∷ 4 ∷ []) 0 → ⊥
-not-zero (inl a) = omega (arith, a)
-not-zero (inr (inl a)) = omega (arith, a)
-not-zero (inr (inr (inl a))) = omega (arith, a)
-not-zero (inr (inr (inr a))) = omega (arith, a)
-
 -- the last read: the cases after which no other follows, by their numbers
 pub read-last : {n : ℕ} (buffer : List ℕ) {h₀ h : Held} (h′ : Held) (p : Progress) → OneOf (1 ∷ 2 ∷ 3 ∷ 4 ∷ []) (tagOf the-type p) → CarriesSome n h₀ h → ChunkRead buffer h h′ p → AllRead h₀ h′ p
 unfolding ChunkRead AllRead
-read-last buffer h′ progress.Onward k some r = absurd (not-zero k)
+read-last buffer h′ progress.Onward k some r = absurd (miss (1 ∷ 2 ∷ 3 ∷ 4 ∷ []) 0 tt k)
 read-last buffer {h₀} h′ progress.InputEnded k some r = subst (CarriesSome 0 h₀) (sym r) (some-fewer (omega arith) some)
 read-last buffer {h₀} h′ progress.ReadFailed k some r = subst (CarriesSome 0 h₀) (sym r) (some-fewer (omega arith) some)
 read-last buffer h′ progress.WriteFailed k some r = tt
@@ -76,18 +68,11 @@ pub handed-ended : (lent : Tables) (h : Held) {p : Progress} → p ≡ progress.
 unfolding Handed
 handed-ended lent h e p = subst (Handed lent h) e p
 
--- 1 is none of these
-not-one : OneOf (0 ∷ 2 ∷ 3 ∷ 4 ∷ []) 1 → ⊥
-not-one (inl a) = omega (arith, a)
-not-one (inr (inl a)) = omega (arith, a)
-not-one (inr (inr (inl a))) = omega (arith, a)
-not-one (inr (inr (inr a))) = omega (arith, a)
-
 -- where it did not end, the session is broken off: the other cases, by their numbers
 pub not-ended : (lent : Tables) (h : Held) (new : List ℕ) (p : Progress) → OneOf (0 ∷ 2 ∷ 3 ∷ 4 ∷ []) (tagOf the-type p) → Handed lent h p → Concluded lent (h .tables) new p
 unfolding Handed Concluded
 not-ended lent h new progress.Onward k handed = handed
-not-ended lent h new progress.InputEnded k handed = absurd (not-one k)
+not-ended lent h new progress.InputEnded k handed = absurd (miss (0 ∷ 2 ∷ 3 ∷ 4 ∷ []) 1 tt k)
 not-ended lent h new progress.ReadFailed k handed = record { last = h; fed = handed; leaves = refl }
 not-ended lent h new progress.WriteFailed k handed = tt
 not-ended lent h new progress.TooLong k handed = record { last = h; fed = handed; leaves = refl }
