@@ -215,6 +215,7 @@ pub record Inside (chunk : List ℕ) (from : ℕ) (h₀ : Held) (old : List ℕ)
   pub streams : Streams (slice from to chunk) h₀ old 0 h out at
   pub onward : from ≤ to
   pub inside : from ≤ length chunk → to ≤ length chunk
+  pub beyond : length chunk ≤ from → to ≡ from
   pub room : at ≤ length out
   pub asLong : length out ≡ length old
   pub few : h₀ .session .lines ≤ lineLimit → h .session .lines ≤ lineLimit

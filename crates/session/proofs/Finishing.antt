@@ -12,7 +12,9 @@ use Rattle.window.specs.Calls.{Outcome}
 use Rattle.window.specs.Model as model
 use Rattle.window.proofs.Lists.{and-left, and-right}
 use Rattle.engine.specs.declared.state.State.{State}
+use Rattle.registry.specs.Records.{used}
 use Rattle.engine.specs.Tables.{Tables}
+use Rattle.engine.specs.States.{FreshState}
 use Rattle.engine.specs.Machine.{Machine, Represents}
 use Rattle.engine.specs.Contracts.{StartEnsures}
 use Rattle.engine.proofs.Keeping.{tables-same}
@@ -28,15 +30,19 @@ use Rattle.session.specs.Contracts.{Held, held, machineOf, RefusesEnsure
 
 -- ---- the first session
 
-pub started : (m m′ : Machine) (o : Outcome) (none : Kept) → none .length ≡ 0 → StartEnsures m o m′
+pub started : (m m′ : Machine) (o : Outcome) (none : Kept) → FreshState (m .state) → used (m .queries) ≡ [] → none .length ≡ 0 → StartEnsures m o m′
     → OpenEnsures (m .tables) (held (record { state = m′ .state; queries = m′ .queries; lines = 0; kept = none }) (m′ .tables))
-started m m′ o none e p =
+started m m′ o none fresh empty e p =
     record {
-      shows = λ l. record { represents = p .represents l; lines = refl; line = ap (λ (k : ℕ). take k (none .bytes)) e };
+      shows = λ l. record { represents = p .represents l; lines = refl; line = no-byte-kept };
       zeroes = p .zeroes;
-      short = λ s. ap (λ (x : Machine). x .tables) (p .unchanged 1 (p .short s));
+      short = λ s. subst (λ (x : Machine). (x .tables ≡ m .tables) × (FreshState (x .state) × (used (x .queries) ≡ []))) (sym (p .unchanged 1 (p .short s))) (refl, (fresh, empty));
       few = refl;
+      none = no-byte-kept;
     }
+  where
+    no-byte-kept : keptLine none ≡ []
+    no-byte-kept = ap (λ (k : ℕ). take k (none .bytes)) e
 
 -- ---- whether it goes on
 

@@ -52,9 +52,9 @@ module _ {chunk : List ℕ} {from : ℕ} {h : Held} {old : List ℕ} {refuses : 
   pub not-fed : refuses ≡ true → FeedEnsures chunk from h old h from old 0
   not-fed e =
       record {
-        taken = record { streams = streams-none chunk from h old 0; onward = omega arith; inside = λ l. l; few = λ l. l; fits = omega arith };
+        taken = record { streams = streams-none chunk from h old 0; onward = omega arith; inside = λ l. l; beyond = λ l. refl; few = λ l. l; fits = omega arith };
         stops = λ r sh. absurd (true≢false (sym e ∙ told .never (r .position .state) (sh .represents)));
-        refuses = λ q. (refl, (refl, (refl, refl)));
+        refuses = λ q. (refl, (refl, (refl, (refl, refl))));
       }
 
   -- one line after the other

@@ -16,7 +16,9 @@ use Rattle.window.specs.Model as model
 use Rattle.engine.specs.declared.calls.Answered.{Answered}
 use Rattle.engine.specs.declared.calls.Answered.the-variants as answered
 use Rattle.engine.specs.declared.calls.Reply.{Reply}
+use Rattle.registry.specs.Records.{used}
 use Rattle.engine.specs.Tables.{Tables, longEnough, TablesKept}
+use Rattle.engine.specs.States.{FreshState}
 use Rattle.engine.specs.Machine.{Machine, machine, Represents}
 use Rattle.engine.specs.Outcomes.{readingOutcome}
 use Rattle.engine.specs.Contracts.{zeroedTables, listDamaged}
@@ -140,14 +142,22 @@ pub record RestEnsures (chunk : List ℕ) (from : ℕ) (h : Held) (old : List �
 pub record OpenEnsures (t : Tables) (h : Held) : Type 0 where
   pub shows : longEnough t ≡ true → Shown opened h
   pub zeroes : longEnough t ≡ true → h .tables ≡ zeroedTables t
-  pub short : longEnough t ≡ false → h .tables ≡ t
+  -- tables that do not pass it stay as they are; the session is that of an engine that took no call
+  pub short : longEnough t ≡ false → (h .tables ≡ t) × (FreshState (h .session .state) × (used (h .session .queries) ≡ []))
   pub few : h .session .lines ≡ 0
+  pub none : keptLine (h .session .kept) ≡ []
+
+-- nothing is printed: the output stays as it is, and so do the tables
+abbrev pub NothingDone : (t t′ : Tables) (old new : List ℕ) (written : ℕ) → Type 0
+NothingDone t t′ old new written = (t′ ≡ t) × ((written ≡ 0) × (new ≡ old))
 
 -- bytes of a chunk, from a place on: those up to `to` are taken, and what they print stands in the first places of the output
 pub record TakenEnsures (chunk : List ℕ) (from : ℕ) (h : Held) (old : List ℕ) (h′ : Held) (to : ℕ) (new : List ℕ) (written : ℕ) : Type 0 where
   pub streams : Streams (slice from to chunk) h old 0 h′ new written
   pub onward : from ≤ to
   pub inside : from ≤ length chunk → to ≤ length chunk
+  -- where there is no byte, the place stays
+  pub beyond : length chunk ≤ from → to ≡ from
   pub few : h .session .lines ≤ lineLimit → h′ .session .lines ≤ lineLimit
   pub fits : written ≤ length new
 
@@ -162,7 +172,7 @@ pub record FeedEnsures (chunk : List ℕ) (from : ℕ) (h : Held) (old : List �
   -- a session takes all bytes that it has room and line numbers for
   pub stops : (r : Running) → Shown r h → to < length chunk → written + lineRoom ≤ length old → lineLimit ≤ h′ .session .lines
   -- where the engine would refuse every call, no byte is taken, nothing is printed and nothing changes
-  pub refuses : refusesAll (machineOf h) ≡ true → (to ≡ from) × ((h′ ≡ h) × ((written ≡ 0) × (new ≡ old)))
+  pub refuses : refusesAll (machineOf h) ≡ true → (to ≡ from) × ((h′ .session ≡ h .session) × NothingDone (h .tables) (h′ .tables) old new written)
 
 -- what the end of the input prints at most
 abbrev pub finishRoom : ℕ
@@ -180,8 +190,8 @@ pub record LastEnsures (h : Held) (old : List ℕ) (h′ : Held) (new : List ℕ
 pub record FinishEnsures (h : Held) (old : List ℕ) (t′ : Tables) (new : List ℕ) (written : ℕ) : Type 0 where
   pub says : (r : Running) → Shown r h → h .session .lines ≤ lineLimit → finishRoom ≤ length old → Appended old 0 (ended r) new written
   -- where the output is too short, or the engine would refuse every call, nothing is printed and nothing changes
-  pub short : length old < finishRoom → (t′ ≡ h .tables) × ((written ≡ 0) × (new ≡ old))
-  pub refuses : refusesAll (machineOf h) ≡ true → (t′ ≡ h .tables) × ((written ≡ 0) × (new ≡ old))
+  pub short : length old < finishRoom → NothingDone (h .tables) t′ old new written
+  pub refuses : refusesAll (machineOf h) ≡ true → NothingDone (h .tables) t′ old new written
   -- whatever was held: no other place of the output is written, and none beyond the first 4,096 of a table
   pub puts : AppendedSome old 0 new written
   pub fits : written ≤ length new

@@ -21,7 +21,7 @@ abbrev μ-loop : tie.MeasureT-loop
 loop-holds : tie.Need-loop-holds Inv-loop μ-loop
 loop-holds c =
     let at-start = c .before .before .before .before .before in
-    record { streams = streams-none (at-start .args .chunk .now) (at-start .args .from) _ _ _; onward = omega arith; inside = λ h. h; room = omega arith; asLong = refl; few = λ h. h; table = refl }
+    record { streams = streams-none (at-start .args .chunk .now) (at-start .args .from) _ _ _; onward = omega arith; inside = λ h. h; beyond = λ h. refl; room = omega arith; asLong = refl; few = λ h. h; table = refl }
 
 goes-on-requires : tie.Need-goes-on-requires Inv-loop μ-loop
 goes-on-requires c κs = omega arith
@@ -57,6 +57,7 @@ loop-again c =
       streams = streams-next (at-start .args .chunk .now) (at-start .args .from) _ _ (v .onward) (omega (arith, rest .onward)) (rest .inside) (v .streams) (rest .streams);
       onward = omega (arith, rest .onward, v .onward);
       inside = λ h. rest .inside;
+      beyond = λ h. absurd (omega (arith, h, going .0, v .onward));
       room = omega (arith, rest .room, going .1 .0, lengths .1 .1 .1 .0);
       asLong = lengths .1 .1 .1 .0 ∙ v .asLong;
       few = λ h. rest .few;
@@ -88,7 +89,7 @@ returns : tie.Need-returns Inv-loop μ-loop
 returns c =
     let v = c .before .before .loop .inv in
     record {
-      taken = record { streams = v .streams; onward = v .onward; inside = v .inside; few = v .few; fits = v .room };
+      taken = record { streams = v .streams; onward = v .onward; inside = v .inside; beyond = v .beyond; few = v .few; fits = v .room };
       stops = λ l k. stopped _ _ _ _ _ (sym (c .before .goes-on .ensures) ∙ c .if1 .left) l (omega (arith, k, v .asLong));
     }
 
