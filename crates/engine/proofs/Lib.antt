@@ -6,6 +6,7 @@ pub mod Refinement
 pub mod Registration
 pub mod Answering
 pub mod Soundness
+pub mod Steady
 pub mod Judging
 pub mod Taking
 pub mod Stepping

@@ -17,6 +17,10 @@ use Rattle.engine.specs.Tables.{Tables, tables, longEnough, zeroed, Tabl
 use Rattle.engine.specs.Answers.{answeredPlaces}
 use Rattle.engine.specs.Machine.{Machine, Represents}
 
+-- what a call says of the machine before it, its outcome and the machine after it
+abbrev pub Promise : Type 1
+Promise = Machine → Outcome → Machine → Type 0
+
 -- ---- refusals
 
 -- the numbers in a call's own rows of the table of refusals

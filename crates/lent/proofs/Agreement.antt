@@ -11,7 +11,8 @@ use Rattle.engine.specs.Demand3 as below
 use Rattle.engine.specs.Demand3.{Performed, ended, called}
 use Rattle.engine.proofs.Agreement as engine
 use Rattle.lent.specs.Lent.{Lent, listLong, machineOf}
-use Rattle.lent.specs.Contracts.{Promise, OnLent}
+use Rattle.engine.specs.Contracts.{Promise}
+use Rattle.lent.specs.Contracts.{OnLent}
 use Rattle.lent.specs.Demand3.{Performs, Fresh, Demand3, FromStart, BoardLive, NeverDamaged}
 
 -- a list that is long enough stays so

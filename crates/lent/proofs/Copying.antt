@@ -13,11 +13,10 @@ use Rattle.engine.specs.declared.state.State.{State}
 use Rattle.engine.specs.Tables.{Tables}
 use Rattle.engine.specs.Machine.{Machine, machine}
 use Rattle.engine.specs.Outcomes.{verdictOutcome}
-use Rattle.engine.specs.Contracts.{ReadingEnsures}
+use Rattle.engine.specs.Contracts.{Promise, ReadingEnsures}
 use Rattle.lent.specs.declared.held.Engine.{Engine}
 use Rattle.lent.specs.declared.held.OnCopy.{OnCopy}
 use Rattle.lent.specs.Lent.{listOf}
-use Rattle.lent.specs.Contracts.{Promise}
 use Rattle.lent.specs.Copied.{recordsWritten, Copied, tooShort, performed, shortOf, apart}
 
 -- what `start`, `register` and `withdraw` promise of what they came to

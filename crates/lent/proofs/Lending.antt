@@ -6,28 +6,23 @@ use mathlib.Core.Path.{_≡_, refl, sym, ap, ap₂, _∙_, subst}
 use mathlib.Core.Bool.{Bool, true, false, _&&_}
 use mathlib.Core.List.{List}
 use borrow.Author.Tests.{leb-true, leb-false}
-use lib.IntN.{ℤ}
 use lib.Dec.{leb}
 use lib.ListN.{length, take, drop}
 use lib.Seq.{take-all}
 use Rattle.window.specs.declared.query.Query.{Query}
-use Rattle.window.specs.Calls.{Call, Outcome, accepted, refused}
+use Rattle.window.specs.Calls.{Outcome, accepted, refused}
 use Rattle.registry.specs.Records.{recordLimit}
 use Rattle.records.specs.LentList.{firstRecords, overwritten}
 use Rattle.engine.specs.Tables as tables
 use Rattle.engine.specs.Tables.{Tables}
 use Rattle.engine.specs.Machine.{Machine}
-use Rattle.engine.specs.Contracts.{StartEnsures, Ensures, ReadingEnsures}
+use Rattle.engine.specs.Contracts.{Promise}
+use Rattle.engine.proofs.Steady.{Steady}
 use Rattle.lent.specs.declared.held.Engine.{Engine}
 use Rattle.lent.specs.Lent.{lent, longEnough, machineWith}
-use Rattle.lent.specs.Contracts.{Promise, ListKept, OnLent}
+use Rattle.lent.specs.Contracts.{ListKept, OnLent}
 use Rattle.lent.specs.Copied.{recordsWritten, Copied, tooShort, performed}
 use Rattle.records.proofs.Lists.{first-long, overwritten-length, overwritten-first, overwritten-rest}
-
--- what every promise of the layer below has: check 1, and that a refused call changes nothing
-pub record Steady (promise : Promise) : Type 0 where
-  pub short : (m m′ : Machine) (o : Outcome) → promise m o m′ → tables.longEnough (m .tables) ≡ false → o ≡ refused 1
-  pub unchanged : (m m′ : Machine) (o : Outcome) (k : ℕ) → promise m o m′ → o ≡ refused k → m′ ≡ m
 
 -- a refused call on the copy changed nothing
 unmoved : (promise : Promise) → Steady promise → {places : ℕ} {e e′ : Engine} {list list′ : List Query} {t t′ : Tables} {o : Outcome}
@@ -95,15 +90,3 @@ put-back promise steady e e′ xs list list′ zs t t′ (refused k) write same 
     let alone : list′ ≡ list = ap (λ (m : Machine). m .queries .records) (unmoved promise steady c k refl) in
     subst (λ (ys : List Query). OnLent promise (lent e xs t) (refused k) (lent e′ ys t′)) (sym none)
     (left-alone promise steady e e′ xs list t t′ (refused k) same (subst (λ (ys : List Query). Copied promise (length xs) e list t (refused k) e′ ys t′) alone c))
-
--- a start is such
-pub start-steady : Steady StartEnsures
-start-steady = record { short = λ m m′ o p. p .short; unchanged = λ m m′ o k p. p .unchanged k }
-
--- so is every other call
-pub call-steady : (c : Call) → Steady (Ensures c)
-call-steady c = record { short = λ m m′ o p. p .short; unchanged = λ m m′ o k p. p .unchanged k }
-
--- and a reading
-pub reading-steady : (v : ℤ) (before after : List ℤ) → Steady (ReadingEnsures v before after)
-reading-steady v before after = record { short = λ m m′ o p. p .ensures .short; unchanged = λ m m′ o k p. p .ensures .unchanged k }

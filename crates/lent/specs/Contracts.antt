@@ -9,13 +9,8 @@ use lib.ListN.{length, drop}
 use Rattle.window.specs.declared.query.Query.{Query}
 use Rattle.window.specs.Calls.{Outcome, refused}
 use Rattle.registry.specs.Records.{recordLimit}
-use Rattle.engine.specs.Machine.{Machine}
-use Rattle.engine.specs.Contracts.{ReadingEnsures, written}
+use Rattle.engine.specs.Contracts.{Promise, ReadingEnsures, written}
 use Rattle.lent.specs.Lent.{Lent, listLong, longEnough, machineOf}
-
--- what a call of the layer below says of the machine before it, its outcome and the machine after it
-abbrev pub Promise : Type 1
-Promise = Machine → Outcome → Machine → Type 0
 
 -- the list is as long as it was, and beyond its first 32 records it is as it was
 pub record ListKept (before after : List Query) : Type 0 where

@@ -10,10 +10,10 @@ use Rattle.registry.specs.Records.{recordLimit}
 use Rattle.engine.specs.Tables.{Tables}
 use Rattle.engine.specs.declared.calls.Reply.{Reply}
 use Rattle.engine.specs.Outcomes.{verdictOutcome}
+use Rattle.engine.specs.Contracts.{Promise}
 use Rattle.lent.specs.declared.held.Engine.{Engine}
 use Rattle.lent.specs.declared.held.OnCopy.{OnCopy}
 use Rattle.lent.specs.Lent.{machineWith}
-use Rattle.lent.specs.Contracts.{Promise}
 
 -- how many records are put back: all of them, and none after a refusal
 abbrev pub recordsWritten : Outcome → ℕ

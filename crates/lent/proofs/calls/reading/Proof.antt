@@ -49,7 +49,8 @@ use Rattle.engine.specs.Contracts.{ReadingEnsures, written}
 use Rattle.lent.specs.Lent.{lent}
 use Rattle.lent.specs.Contracts.{ReadingOnLent}
 use Rattle.lent.specs.Copied.{Copied}
-use Rattle.lent.proofs.Lending.{left-alone, reading-steady}
+use Rattle.lent.proofs.Lending.{left-alone}
+use Rattle.engine.proofs.Steady.{reading-steady}
 use Rattle.lent.specs.declared.held.Engine.{Engine}
 use Rattle.lent.specs.declared.held.ReadingReply.{ReadingReply}
 use Rattle.records.proofs.copy.load.Symbol as load-def

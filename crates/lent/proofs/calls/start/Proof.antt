@@ -48,7 +48,8 @@ use Rattle.engine.specs.Contracts.{StartEnsures}
 use Rattle.lent.specs.Lent.{lent}
 use Rattle.lent.specs.Contracts.{OnLent}
 use Rattle.lent.specs.Copied.{recordsWritten, Copied}
-use Rattle.lent.proofs.Lending.{put-back, start-steady}
+use Rattle.lent.proofs.Lending.{put-back}
+use Rattle.engine.proofs.Steady.{start-steady}
 use Rattle.lent.proofs.Steps.{PutBack, calls-put-back}
 use Rattle.lent.specs.declared.held.Engine.{Engine}
 use Rattle.lent.specs.declared.held.Reply.{Reply}

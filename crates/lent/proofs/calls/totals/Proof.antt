@@ -49,7 +49,8 @@ use Rattle.engine.specs.Contracts.{Ensures}
 use Rattle.lent.specs.Lent.{lent}
 use Rattle.lent.specs.Contracts.{OnLent}
 use Rattle.lent.specs.Copied.{Copied}
-use Rattle.lent.proofs.Lending.{left-alone, call-steady}
+use Rattle.lent.proofs.Lending.{left-alone}
+use Rattle.engine.proofs.Steady.{call-steady}
 use Rattle.lent.specs.declared.held.Engine.{Engine}
 use Rattle.engine.specs.declared.calls.TotalsReply.{TotalsReply}
 use Rattle.records.proofs.copy.load.Symbol as load-def

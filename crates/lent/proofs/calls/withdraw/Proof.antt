@@ -49,7 +49,8 @@ use Rattle.engine.specs.Contracts.{Ensures}
 use Rattle.lent.specs.Lent.{lent}
 use Rattle.lent.specs.Contracts.{OnLent}
 use Rattle.lent.specs.Copied.{recordsWritten, Copied}
-use Rattle.lent.proofs.Lending.{put-back, call-steady}
+use Rattle.lent.proofs.Lending.{put-back}
+use Rattle.engine.proofs.Steady.{call-steady}
 use Rattle.lent.proofs.Steps.{PutBack, calls-put-back}
 use Rattle.lent.specs.declared.held.Engine.{Engine}
 use Rattle.lent.specs.declared.held.Reply.{Reply}

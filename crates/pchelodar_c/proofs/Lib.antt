@@ -1,0 +1,5 @@
+pub mod Signs
+pub mod Copies
+pub mod States
+pub mod Calling
+pub mod Agreement

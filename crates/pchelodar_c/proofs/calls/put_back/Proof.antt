@@ -1,0 +1,54 @@
+-- `put_back` meets its contract. Assumes nothing.
+use Rattle.pchelodar_c.specs.Contracts.{nothingBack, allBack}
+use Rattle.pchelodar_c.proofs.Copies.{state-kept, list-kept}
+use borrow.Author.Needs.{needs}
+use Rattle.pchelodar_c.proofs.calls.put_back.Statement.{statement}
+use Rattle.pchelodar_c.proofs.calls.put_back.Tie as tie
+
+enum-known-verdict : tie.Need-enum-known-verdict
+enum-known-verdict c = search needs
+
+number-requires : tie.Need-number-requires
+number-requires c κs = search needs
+
+enum-told : tie.Need-enum-told
+enum-told c = search needs
+
+store-state-requires : tie.Need-store-state-requires
+store-state-requires c κs = search needs
+
+store-list-requires : tie.Need-store-list-requires
+store-list-requires c κs = search needs
+
+returns : tie.Need-returns
+returns c = rw (c .number .ensures) (nothingBack _ (c .before .before .verdict .given .1))
+
+same-length : tie.Need-same-length
+same-length c = search needs
+
+same-length-2 : tie.Need-same-length-2
+same-length-2 c = search needs
+
+returns-2 : tie.Need-returns-2
+returns-2 c =
+    let l = c .before .before in
+    let s = l .before .before .before .before in
+    let v = s .before .before .before .before in
+    let b = v .before .before .before .before in
+    allBack (v .enum-told .given .1) (s .store-state .ensures .1 .0) (s .store-state .ensures .1 .1) (l .store-list .ensures .1)
+    (state-kept _ _ _ _ (b .pre .0) (s .store-state .ensures .0))
+    (list-kept _ _ _ (b .pre .1) (l .store-list .ensures .0) (l .store-list .ensures .1))
+
+pub put-back-spec : {M : Type 1} → statement M
+put-back-spec =
+    tie.close
+    (tie.spec
+    enum-known-verdict
+    number-requires
+    enum-told
+    store-state-requires
+    store-list-requires
+    returns
+    same-length
+    same-length-2
+    returns-2)

@@ -1,0 +1,270 @@
+// The five calls by their names in C, on lent slices of numbers alone: no allocation, nothing global. Each returns 0 where it is accepted, and else the number of the refusal.
+use crate::list::LIST_NUMBERS;
+use crate::list::list_of;
+use crate::list::store_list;
+use crate::state::STATE_NUMBERS;
+use crate::state::also;
+use crate::state::load_numbers;
+use crate::state::registered_in;
+use crate::state::state_of;
+use crate::state::store_state;
+use engine::calls;
+use engine::calls::Answered;
+use engine::calls::ReadingReply;
+use engine::calls::Reply;
+use engine::calls::TotalsReply;
+use window::query::Count;
+use window::refusal::Refusal;
+use window::refusal::Verdict;
+ghost use mathlib.Core.Path.{_≡_};
+ghost use Prim.Native.Nat.{_≤_};
+ghost use lib.ListN.{length};
+ghost use Rattle.window.specs.Calls.{register, withdraw};
+ghost use Rattle.engine.specs.Tables.{tables};
+ghost use Rattle.engine.specs.Contracts.{StartEnsures, Ensures};
+ghost use Rattle.pchelodar_c.specs.Written.{stateNumbers, listNumbers};
+ghost use Rattle.pchelodar_c.specs.Held.{held, roomFor};
+ghost use Rattle.pchelodar_c.specs.Contracts.{callOutcome, readingOutcome, totalsOutcome, OnNumbers, ReadingOnNumbers, TotalsOnNumbers, PutBack, ReadingBack};
+
+// Whether there are places for the numbers of a state and of a query list.
+fn room_for(state: usize, queries: usize) -> bool
+    ensures { λ r. ⌜ r ≡ roomFor state queries ⌝ }
+{
+    also(STATE_NUMBERS <= state, LIST_NUMBERS <= queries)
+}
+
+// What start, register or withdraw came to is put back, where it was accepted.
+fn put_back(state: &mut [u64], queries: &mut [u32], reply: Reply) -> u32
+    requires { ⌜ (stateNumbers ≤ length (now state)) × (listNumbers ≤ length (now queries)) ⌝ }
+    ensures { λ r. ⌜ PutBack reply (now (state .entry)) (now (queries .entry)) r (now (state .exit)) (now (queries .exit)) ⌝ }
+{
+    let verdict = reply.verdict;
+    match verdict {
+        Verdict::Refused(refusal) => refusal.number(),
+        Verdict::Passed => {
+            let list = reply.queries;
+            let records = list.records;
+            store_state(state, reply.state, list.count);
+            store_list(queries, records);
+            0
+        }
+    }
+}
+
+// So is what a reading came to: the state, and how many answers there are.
+fn put_reading_back(
+    state: &mut [u64],
+    registered: usize,
+    answered: &mut usize,
+    reply: ReadingReply,
+) -> u32
+    requires { ⌜ stateNumbers ≤ length (now state) ⌝ }
+    ensures { λ r. ⌜ ReadingBack reply registered (now (state .entry)) (now (answered .entry)) r (now (state .exit)) (now (answered .exit)) ⌝ }
+{
+    let outcome = reply.outcome;
+    match outcome {
+        Answered::Refused(refusal) => refusal.number(),
+        Answered::Answers(given) => {
+            store_state(state, reply.state, registered);
+            *answered = given;
+            0
+        }
+    }
+}
+
+// Start: everything empty. The state and the query list are written, and the first 4,096 places of each table become 0. Refused with 1.
+#[no_mangle]
+pub extern "C" fn pchelodar_start(
+    state: &mut [u64],
+    queries: &mut [u32],
+    starts: &mut [Count],
+    sums: &mut [i64],
+    max_starts: &mut [Count],
+    max_values: &mut [i32],
+    min_starts: &mut [Count],
+    min_values: &mut [i32],
+) -> u32
+    ensures { λ r. ⌜ OnNumbers StartEnsures
+        (held (now (state .entry)) (now (queries .entry)) (tables (now (starts .entry)) (now (sums .entry)) (now («max_starts» .entry)) (now («max_values» .entry)) (now («min_starts» .entry)) (now («min_values» .entry))))
+        (callOutcome r)
+        (held (now (state .exit)) (now (queries .exit)) (tables (now (starts .exit)) (now (sums .exit)) (now («max_starts» .exit)) (now («max_values» .exit)) (now («min_starts» .exit)) (now («min_values» .exit)))) ⌝ }
+{
+    if !room_for(state.len(), queries.len()) {
+        let refusal = Refusal::TableTooShort;
+        return refusal.number();
+    }
+    let w = load_numbers(state);
+    let reply = calls::start(
+        state_of(w),
+        list_of(queries, registered_in(w)),
+        starts,
+        sums,
+        max_starts,
+        max_values,
+        min_starts,
+        min_values,
+    );
+    put_back(state, queries, reply)
+}
+
+// Register: the query joins the list with g = n. Refused with 1 to 8.
+#[no_mangle]
+pub extern "C" fn pchelodar_register(
+    state: &mut [u64],
+    queries: &mut [u32],
+    starts: &mut [Count],
+    sums: &mut [i64],
+    max_starts: &mut [Count],
+    max_values: &mut [i32],
+    min_starts: &mut [Count],
+    min_values: &mut [i32],
+    number: u32,
+    kind: u32,
+    range: u32,
+    slide: u32,
+) -> u32
+    ensures { λ r. ⌜ OnNumbers (Ensures (register number kind range slide))
+        (held (now (state .entry)) (now (queries .entry)) (tables (now (starts .entry)) (now (sums .entry)) (now («max_starts» .entry)) (now («max_values» .entry)) (now («min_starts» .entry)) (now («min_values» .entry))))
+        (callOutcome r)
+        (held (now (state .exit)) (now (queries .exit)) (tables (now (starts .exit)) (now (sums .exit)) (now («max_starts» .exit)) (now («max_values» .exit)) (now («min_starts» .exit)) (now («min_values» .exit)))) ⌝ }
+{
+    if !room_for(state.len(), queries.len()) {
+        let refusal = Refusal::TableTooShort;
+        return refusal.number();
+    }
+    let w = load_numbers(state);
+    let reply = calls::register(
+        state_of(w),
+        list_of(queries, registered_in(w)),
+        starts,
+        sums,
+        max_starts,
+        max_values,
+        min_starts,
+        min_values,
+        number,
+        kind,
+        range,
+        slide,
+    );
+    put_back(state, queries, reply)
+}
+
+// Withdraw: the query leaves, the others keep their order. Refused with 1, 2 and 9.
+#[no_mangle]
+pub extern "C" fn pchelodar_withdraw(
+    state: &mut [u64],
+    queries: &mut [u32],
+    starts: &[Count],
+    sums: &[i64],
+    max_starts: &[Count],
+    max_values: &[i32],
+    min_starts: &[Count],
+    min_values: &[i32],
+    number: u32,
+) -> u32
+    ensures { λ r. ⌜ OnNumbers (Ensures (withdraw number))
+        (held (now (state .entry)) (now (queries .entry)) (tables (now (starts .entry)) (now (sums .entry)) (now («max_starts» .entry)) (now («max_values» .entry)) (now («min_starts» .entry)) (now («min_values» .entry))))
+        (callOutcome r)
+        (held (now (state .exit)) (now (queries .exit)) (tables (now (starts .entry)) (now (sums .entry)) (now («max_starts» .entry)) (now («max_values» .entry)) (now («min_starts» .entry)) (now («min_values» .entry)))) ⌝ }
+{
+    if !room_for(state.len(), queries.len()) {
+        let refusal = Refusal::TableTooShort;
+        return refusal.number();
+    }
+    let w = load_numbers(state);
+    let reply = calls::withdraw(
+        state_of(w),
+        list_of(queries, registered_in(w)),
+        starts,
+        sums,
+        max_starts,
+        max_values,
+        min_starts,
+        min_values,
+        number,
+    );
+    put_back(state, queries, reply)
+}
+
+// Reading: it joins the readings, and the due queries are answered, four places each, from the first place on. Refused with 1, 2, 10 and 11.
+#[no_mangle]
+pub extern "C" fn pchelodar_reading(
+    state: &mut [u64],
+    queries: &[u32],
+    starts: &mut [Count],
+    sums: &mut [i64],
+    max_starts: &mut [Count],
+    max_values: &mut [i32],
+    min_starts: &mut [Count],
+    min_values: &mut [i32],
+    answers: &mut [i64],
+    answered: &mut usize,
+    value: i32,
+) -> u32
+    ensures { λ r. ⌜ ReadingOnNumbers value (now (answers .entry)) (now (answers .exit)) (now (answered .entry)) (now (answered .exit))
+        (held (now (state .entry)) (now (queries .entry)) (tables (now (starts .entry)) (now (sums .entry)) (now («max_starts» .entry)) (now («max_values» .entry)) (now («min_starts» .entry)) (now («min_values» .entry))))
+        (readingOutcome r (now (answered .exit)) (now (answers .exit)))
+        (held (now (state .exit)) (now (queries .entry)) (tables (now (starts .exit)) (now (sums .exit)) (now («max_starts» .exit)) (now («max_values» .exit)) (now («min_starts» .exit)) (now («min_values» .exit)))) ⌝ }
+{
+    if !room_for(state.len(), queries.len()) {
+        let refusal = Refusal::TableTooShort;
+        return refusal.number();
+    }
+    let w = load_numbers(state);
+    let registered = registered_in(w);
+    let reply = calls::reading(
+        state_of(w),
+        list_of(queries, registered),
+        starts,
+        sums,
+        max_starts,
+        max_values,
+        min_starts,
+        min_values,
+        answers,
+        value,
+    );
+    put_reading_back(state, registered, answered, reply)
+}
+
+// Totals: n, P, M and N are written, changing nothing else. Refused with 1 and 2.
+#[no_mangle]
+pub extern "C" fn pchelodar_totals(
+    state: &[u64],
+    queries: &[u32],
+    starts: &[Count],
+    sums: &[i64],
+    max_starts: &[Count],
+    max_values: &[i32],
+    min_starts: &[Count],
+    min_values: &[i32],
+    totals: &mut [u64; 4],
+) -> u32
+    ensures { λ r. ⌜ TotalsOnNumbers (now (totals .entry)) (now (totals .exit))
+        (held (now (state .entry)) (now (queries .entry)) (tables (now (starts .entry)) (now (sums .entry)) (now («max_starts» .entry)) (now («max_values» .entry)) (now («min_starts» .entry)) (now («min_values» .entry))))
+        (totalsOutcome r (now (totals .exit))) ⌝ }
+{
+    if !room_for(state.len(), queries.len()) {
+        let refusal = Refusal::TableTooShort;
+        return refusal.number();
+    }
+    let w = load_numbers(state);
+    let reply = calls::totals(
+        state_of(w),
+        list_of(queries, registered_in(w)),
+        starts,
+        sums,
+        max_starts,
+        max_values,
+        min_starts,
+        min_values,
+    );
+    match reply {
+        TotalsReply::Refused(refusal) => refusal.number(),
+        TotalsReply::Totals(n, closed, max_comparisons, min_comparisons) => {
+            *totals = [n as u64, closed as u64, max_comparisons, min_comparisons];
+            0
+        }
+    }
+}
