@@ -133,6 +133,13 @@ count-parted m (suc n) f (suc r) l below above =
     rw (lt-leb m (f 0) (below 0 (omega arith)))
     (ap suc (count-parted m n (λ i. f (suc i)) r (omega arith) (λ k h. below (suc k) (omega arith)) (λ k h i. above (suc k) (omega arith) (omega arith))))
 
+-- the same of starts that never fall, by the two at the index
+pub count-between : (m n : ℕ) (f : ℕ → ℕ) (r : ℕ) → r ≤ n → NeverFalls (listed n f) → (0 < r → f (r - 1) < m) → (r < n → m ≤ f r) → r ≡ countBefore m (listed n f)
+count-between m n f r l rises below above =
+    count-parted m n f r l
+    (λ k h. omega (arith, below (omega arith), rising n f rises k (r - 1) (omega arith) (omega arith)))
+    (λ k h i. omega (arith, above (omega arith), rising n f rises r k h i))
+
 -- ---- entries with a start, of any type
 
 -- evicting entries one after the other drops as many as start before h

@@ -2,9 +2,9 @@
 use window::query::Count;
 ghost use mathlib.Core.Path.{_≡_};
 ghost use mathlib.Core.Bool.{true};
-ghost use Prim.Native.Nat.{_<_, _≤_};
+ghost use Prim.Native.Nat.{_-_, _<_, _≤_};
 ghost use lib.ListN.{length, set};
-ghost use Rattle.deque.specs.Rings.{capacity, place, Fits, startsOf, advanced, withRoom, grown, countBefore, NeverFalls};
+ghost use Rattle.deque.specs.Rings.{capacity, place, Fits, startAt, startsOf, advanced, withRoom, grown, countBefore, NeverFalls};
 
 // How many places of each table are used.
 pub const CAPACITY: usize = 4_096;
@@ -108,8 +108,62 @@ impl Ring {
         Pushed { ring, place }
     }
 
-    // How many entries come before the first that starts at `from` or later, by binary search.
+    // Where the first entry that starts at `from` or later would be if each entry since the oldest held one reading, as with a slide of 1.
+    fn guess(self, starts: &[Count], from: Count) -> usize
+        requires { ⌜ Fits self × (capacity ≤ length (now starts)) ⌝ }
+        ensures { λ r. ⌜ r ≤ self .len ⌝ }
+    {
+        let head = self.head;
+        let oldest = starts[head];
+        if from <= oldest {
+            return 0;
+        }
+        let steps = (from - oldest) as usize;
+        if steps < self.len { steps } else { self.len }
+    }
+
+    // Whether entry j starts at `from` or later, or there is none.
+    fn reaches(self, starts: &[Count], from: Count, j: usize) -> bool
+        requires { ⌜ Fits self × (capacity ≤ length (now starts)) × (j ≤ self .len) ⌝ }
+        ensures { λ r. ⌜ (r ≡ true → j < self .len → from ≤ startAt (now (starts .entry)) (place (self .head) j)) ⌝ }
+    {
+        if j < self.len {
+            let p = self.place(j);
+            return from <= starts[p];
+        }
+        true
+    }
+
+    // Whether the entry before entry j starts before `from`, or there is none.
+    fn follows(self, starts: &[Count], from: Count, j: usize) -> bool
+        requires { ⌜ Fits self × (capacity ≤ length (now starts)) × (j ≤ self .len) ⌝ }
+        ensures { λ r. ⌜ (r ≡ true → 0 < j → startAt (now (starts .entry)) (place (self .head) (j - 1)) < from) ⌝ }
+    {
+        if j == 0 {
+            return true;
+        }
+        let p = self.place(j - 1);
+        starts[p] < from
+    }
+
+    // How many entries come before the first that starts at `from` or later: as guessed, where the two entries there say so, and else by binary search.
     pub(crate) fn search(self, starts: &[Count], from: Count) -> usize
+        requires { ⌜ Fits self × (capacity ≤ length (now starts)) ⌝ }
+        ensures within { λ r. ⌜ r ≤ self .len ⌝ }
+        ensures found { λ r. ⌜ (NeverFalls (startsOf (now (starts .entry)) self)
+            → r ≡ countBefore from (startsOf (now (starts .entry)) self)) ⌝ }
+    {
+        let guess = self.guess(starts, from);
+        if self.reaches(starts, from, guess) {
+            if self.follows(starts, from, guess) {
+                return guess;
+            }
+        }
+        self.bisect(starts, from)
+    }
+
+    // The same, by binary search.
+    fn bisect(self, starts: &[Count], from: Count) -> usize
         requires { ⌜ Fits self × (capacity ≤ length (now starts)) ⌝ }
         ensures within { λ r. ⌜ r ≤ self .len ⌝ }
         ensures found { λ r. ⌜ (NeverFalls (startsOf (now (starts .entry)) self)

@@ -233,7 +233,8 @@ pub fn totals(
         min_starts.len(),
         min_values.len(),
     );
-    if let Verdict::Refused(refusal) = judge(long, state, queries) {
+    let broken = queries.damaged(state.count);
+    if let Verdict::Refused(refusal) = judge(long, broken, state) {
         return TotalsReply::Refused(refusal);
     }
     let maxima = state.maxima;

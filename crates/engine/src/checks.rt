@@ -5,29 +5,21 @@ use window::query::Query;
 use window::refusal::Refusal;
 use window::refusal::Verdict;
 ghost use mathlib.Core.Path.{_≡_};
-ghost use mathlib.Core.Bool.{true};
-ghost use Rattle.window.specs.Refusals.{firstRefusal, registerChecks, withdrawChecks, readingChecks};
+ghost use Rattle.window.specs.Refusals.{damaged, firstRefusal, registerChecks, withdrawChecks, readingChecks};
 ghost use Rattle.registry.specs.Records.{used};
-ghost use Rattle.engine.specs.States.{Intact, Judged};
+ghost use Rattle.engine.specs.States.{Judged};
 
-// Check 2: whether state and query list can be used.
-fn intact(state: State, queries: Queries) -> bool
-    ensures { λ r. ⌜ (r ≡ true → Intact state queries) × (Intact state queries → r ≡ true) ⌝ }
-{
-    if queries.damaged(state.count) {
-        return false;
-    }
-    state.fits()
-}
-
-// Checks 1 and 2.
-pub(crate) fn judge(long: bool, state: State, queries: Queries) -> Verdict
-    ensures { λ r. ⌜ Judged long state queries Verdict.Passed r ⌝ }
+// Checks 1 and 2, with what the query list's part of check 2 came to.
+pub(crate) fn judge(long: bool, broken: bool, state: State) -> Verdict
+    ensures { λ r. ⌜ ((queries : Queries) → broken ≡ damaged (state .count) (queries .count) (used queries) → Judged long state queries Verdict.Passed r) ⌝ }
 {
     if !long {
         return Verdict::Refused(Refusal::TableTooShort);
     }
-    if !intact(state, queries) {
+    if broken {
+        return Verdict::Refused(Refusal::Damaged);
+    }
+    if !state.fits() {
         return Verdict::Refused(Refusal::Damaged);
     }
     Verdict::Passed
@@ -37,7 +29,8 @@ pub(crate) fn judge(long: bool, state: State, queries: Queries) -> Verdict
 pub(crate) fn judge_register(long: bool, state: State, queries: Queries, q: Query) -> Verdict
     ensures { λ r. ⌜ Judged long state queries (firstRefusal (registerChecks (used queries) (q .number) (q .kind) (q .range) (q .slide))) r ⌝ }
 {
-    if let Verdict::Refused(refusal) = judge(long, state, queries) {
+    let broken = queries.damaged(state.count);
+    if let Verdict::Refused(refusal) = judge(long, broken, state) {
         return Verdict::Refused(refusal);
     }
     queries.check_register(q.number, q.kind, q.range, q.slide)
@@ -47,7 +40,8 @@ pub(crate) fn judge_register(long: bool, state: State, queries: Queries, q: Quer
 pub(crate) fn judge_withdraw(long: bool, state: State, queries: Queries, number: u32) -> Verdict
     ensures { λ r. ⌜ Judged long state queries (firstRefusal (withdrawChecks (used queries) number)) r ⌝ }
 {
-    if let Verdict::Refused(refusal) = judge(long, state, queries) {
+    let broken = queries.damaged(state.count);
+    if let Verdict::Refused(refusal) = judge(long, broken, state) {
         return Verdict::Refused(refusal);
     }
     queries.check_withdraw(number)
@@ -57,7 +51,8 @@ pub(crate) fn judge_withdraw(long: bool, state: State, queries: Queries, number:
 pub(crate) fn judge_reading(long: bool, state: State, queries: Queries, places: usize) -> Verdict
     ensures { λ r. ⌜ Judged long state queries (firstRefusal (readingChecks (state .count) (used queries) places)) r ⌝ }
 {
-    if let Verdict::Refused(refusal) = judge(long, state, queries) {
+    let broken = queries.damaged(state.count);
+    if let Verdict::Refused(refusal) = judge(long, broken, state) {
         return Verdict::Refused(refusal);
     }
     queries.check_reading(state.count, places)

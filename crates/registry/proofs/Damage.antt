@@ -1,7 +1,7 @@
 -- The laws of check 2 on records: what the checks of the fields leave of a broken one, numbers that repeat, and the whole check.
 -- Assumes nothing.
 use mathlib.Core.Path.{_≡_, refl, sym, ap, ap₂, _∙_}
-use mathlib.Core.Bool.{Bool, true, false, _||_}
+use mathlib.Core.Bool.{Bool, true, false, _&&_, _||_}
 use mathlib.Core.List.{List, [], _∷_, _++_}
 use Prim.Native.Nat.{ℕ, zero, suc, _+_, _≤_, _<_}
 use native.Mathlib.Numerals.{add-one}
@@ -9,7 +9,7 @@ use native.Mathlib.Omega.{arith}
 use lib.Dec.{ltb, eqb}
 use lib.ListN.{length, getD, take, drop, set, length-map, List·getD-map}
 use lib.Seq.{take-all, take-suc, take-suc-set}
-use borrow.Author.Tests.{lt-ltb, le-ltb, ltb-true, ltb-false}
+use borrow.Author.Tests.{lt-ltb, le-ltb, ltb-true, ltb-false, ne-eqb}
 use Rattle.window.specs.declared.query.Query.{Query}
 use Rattle.window.specs.declared.refusal.Refusal.{Refusal}
 use Rattle.window.specs.declared.refusal.Verdict.{Verdict}
@@ -17,9 +17,10 @@ use Rattle.window.specs.declared.refusal.Verdict.the-variants.{Passed, Refused}
 use Rattle.window.specs.Lists.{any}
 use Rattle.window.specs.Queries.{queryLimit}
 use Rattle.window.specs.Refusals.{firstRefusal, isRegistered, fieldChecks, brokenRecord, sharedNumber, damaged}
+use Rattle.window.proofs.Lists.{and-left, and-right}
 use Rattle.window.proofs.Refusals.{passed-any, refused-any}
 use Rattle.registry.proofs.Scans.{rest-cons, rest-ended}
-use Rattle.registry.specs.Records.{unused, numbersOf, occurs, repeats}
+use Rattle.registry.specs.Records.{unused, numbersOf, occurs, repeats, ascends}
 
 module _ (n : ℕ) (q : Query) (v : Verdict) (e : v ≡ firstRefusal (fieldChecks (q .number) (q .kind) (q .range) (q .slide))) where
   -- a record whose fields pass is broken where it was registered after n
@@ -52,6 +53,41 @@ repeats-rest ks c i w = go (ltb i c) refl
     go false e =
         let l : c ≤ i = ltb-false i c e in
         rw (rest-ended ks c i l, rest-ended ks c (i + 1) (omega arith))
+
+-- numbers that ascend
+
+-- none that is at most the last one stands among them
+ascends-none : (j last : ℕ) (ks : List ℕ) → j ≤ last → ascends last ks ≡ true → occurs j ks ≡ false
+ascends-none j last [] l e = refl
+ascends-none j last (k ∷ ks) l e =
+    let h : last < k = ltb-true last k (and-left (ltb last k) (ascends k ks) e) in
+    rw (ne-eqb j k (λ i. omega arith)) (ascends-none j k ks (omega arith) (and-right (ltb last k) (ascends k ks) e))
+
+-- so none is repeated
+pub ascends-repeats : (last : ℕ) (ks : List ℕ) → ascends last ks ≡ true → repeats ks ≡ false
+ascends-repeats last [] e = refl
+ascends-repeats last (k ∷ ks) e =
+    let a : ascends k ks ≡ true = and-right (ltb last k) (ascends k ks) e in
+    rw (ascends-none k k ks (omega arith) a) (ascends-repeats k ks a)
+
+-- from place i on: with this many turns made, that the numbers so far ascend and the rest does
+pub ascends-next : (qs : List Query) (c i last : ℕ) (up next whole : Bool) → i < c → c ≤ length qs → whole ≡ (up && ascends last (numbersOf (drop i (take c qs)))) → next ≡ (up && ltb last (getD qs i unused .number))
+    → whole ≡ (next && ascends (getD qs i unused .number) (numbersOf (drop (i + 1) (take c qs))))
+ascends-next qs c i last up next whole l w e n =
+    e ∙ ap (λ (rs : List Query). up && ascends last (numbersOf rs)) (rest-cons qs c i unused l w) ∙ grouped up (ltb last (getD qs i unused .number)) (ascends (getD qs i unused .number) (numbersOf (drop (i + 1) (take c qs))))
+    ∙ ap (λ (b : Bool). b && ascends (getD qs i unused .number) (numbersOf (drop (i + 1) (take c qs)))) (sym n)
+  where
+    grouped : (a b d : Bool) → (a && (b && d)) ≡ ((a && b) && d)
+    grouped true b d = refl
+    grouped false b d = refl
+
+-- at the end nothing is left
+pub ascends-all : (qs : List Query) (c i last : ℕ) (up whole : Bool) → c ≤ i → whole ≡ (up && ascends last (numbersOf (drop i (take c qs)))) → up ≡ whole
+ascends-all qs c i last up whole l e = sym (e ∙ ap (λ (rs : List Query). up && ascends last (numbersOf rs)) (rest-ended qs c i l) ∙ same up)
+  where
+    same : (b : Bool) → (b && true) ≡ b
+    same true = refl
+    same false = refl
 
 -- the first c numbers are those of the first c records
 take-numbers : (c : ℕ) (qs : List Query) → take c (numbersOf qs) ≡ numbersOf (take c qs)
@@ -88,6 +124,11 @@ module _ (n c : ℕ) (xs : List Query) where
   pub damaged-broken : c ≤ queryLimit → any (brokenRecord n) (take c xs) ≡ true → true ≡ damaged n c (take c xs)
   unfolding damaged
   damaged-broken l b = rw (le-ltb queryLimit c l, b)
+
+  -- numbers that ascend
+  pub damaged-ascends : c ≤ queryLimit → any (brokenRecord n) (take c xs) ≡ false → ascends 0 (numbersOf (take c xs)) ≡ true → false ≡ damaged n c (take c xs)
+  unfolding damaged
+  damaged-ascends l b a = rw (le-ltb queryLimit c l, b) (sym (ascends-repeats 0 (numbersOf (take c xs)) a) ∙ repeats-shared (take c xs))
 
   -- otherwise, two numbers that are the same
   pub damaged-shared : c ≤ queryLimit → any (brokenRecord n) (take c xs) ≡ false → (r : Bool) (ks : List ℕ) → ks ≡ numbersOf xs → r ≡ repeats (take c ks) → r ≡ damaged n c (take c xs)

@@ -2,9 +2,9 @@
 -- after it, and so for each test, count and least start that is taken over them.
 -- Assumes nothing.
 use mathlib.Core.Path.{_≡_, refl, sym, ap, _∙_, subst}
-use mathlib.Core.Bool.{Bool, true, false, _&&_, _||_}
+use mathlib.Core.Bool.{Bool, true, false, _&&_, _||_, cond}
 use mathlib.Core.List.{List, [], _∷_, map}
-use Prim.Native.Nat.{ℕ, _+_, _≤_, _<_, min, max}
+use Prim.Native.Nat.{ℕ, suc, _+_, _≤_, _<_, min, max}
 use native.Mathlib.Numerals.{add-one}
 use native.Mathlib.Omega.{arith}
 use lib.Dec.{ltb}
@@ -13,7 +13,8 @@ use lib.Seq.{drop-cons, getD-take}
 use borrow.Author.Tests.{ltb-true, ltb-false}
 use Rattle.window.specs.declared.query.Query.{Query}
 use Rattle.window.specs.Lists.{filter, any, Each}
-use Rattle.window.specs.Queries.{windowStart, horizon}
+use Rattle.window.specs.Queries.{due, windowStart, horizon}
+use Rattle.window.specs.Refusals.{dueAt}
 use Rattle.window.proofs.Lists.{each-drop}
 use Rattle.window.proofs.Queries.{horizon-le-count, horizon-cons}
 
@@ -136,6 +137,18 @@ module _ {A : Type 0} (xs : List A) (c i : ℕ) (d : A) (l : i < c) (w : c ≤ l
 -- at the end all are counted
 pub count-all : {A : Type 0} (p : A → Bool) (xs : List A) (c i : ℕ) → c ≤ i → (k m : ℕ) → k + length (filter p (drop i (take c xs))) ≡ m → k ≡ m
 count-all p xs c i l k m e = omega (arith, ap length (filter-ended p xs c i l))
+
+-- no more are due than there are
+filter-few : {A : Type 0} (p : A → Bool) (xs : List A) → length (filter p xs) ≤ length xs
+filter-few p [] = omega arith
+filter-few {A} p (x ∷ xs) = go (p x) (filter-few p xs)
+  where
+    go : (b : Bool) → length (filter p xs) ≤ length xs → length (cond b (x ∷ filter p xs) (filter p xs)) ≤ suc (length xs)
+    go true l = omega arith
+    go false l = omega arith
+
+pub due-few : (n c : ℕ) (qs : List Query) → length (dueAt n (take c qs)) ≤ c
+due-few n c qs = omega (arith, filter-few (due n) (take c qs), length-take c qs)
 
 -- ---- the horizon
 

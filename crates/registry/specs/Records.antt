@@ -2,9 +2,9 @@
 -- Assumes nothing.
 use Prim.Native.Nat.{ℕ, _+_, _-_}
 use mathlib.Core.Path.{_≡_}
-use mathlib.Core.Bool.{Bool, false, _||_, cond}
+use mathlib.Core.Bool.{Bool, true, false, _&&_, _||_, cond}
 use mathlib.Core.List.{List, [], _∷_, _++_, map}
-use lib.Dec.{eqb}
+use lib.Dec.{eqb, ltb}
 use lib.ListN.{take, replicate}
 use Rattle.window.specs.declared.query.Query.{Query}
 use Rattle.window.specs.Lists.{any}
@@ -51,6 +51,11 @@ numbersOf qs = map (λ (q : Query). q .number) qs
 -- the number is one of these
 abbrev pub occurs : ℕ → List ℕ → Bool
 occurs k ks = any (λ (j : ℕ). eqb k j) ks
+
+-- each is greater than the one before it, and the first than this one
+abbrev pub ascends : ℕ → List ℕ → Bool
+ascends last [] = true
+ascends last (k ∷ ks) = ltb last k && ascends k ks
 
 -- two of them are the same
 abbrev pub repeats : List ℕ → Bool

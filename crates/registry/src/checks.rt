@@ -11,7 +11,7 @@ ghost use mathlib.Core.Bool.{_&&_, _||_};
 ghost use Prim.Native.Nat.{_+_, _*_, _<_, _≤_};
 ghost use lib.Dec.{ltb};
 ghost use lib.ListN.{take, drop};
-ghost use Rattle.window.specs.Lists.{any, Each};
+ghost use Rattle.window.specs.Lists.{Each};
 ghost use Rattle.window.specs.Queries.{Limits};
 ghost use Rattle.window.specs.Refusals.{brokenRecord, damaged, firstRefusal, registerChecks, withdrawChecks, readingChecks};
 ghost use Rattle.registry.specs.Records.{recordLimit, used, numbersOf, occurs, repeats};
@@ -97,31 +97,30 @@ impl Queries {
         numbers
     }
 
-    // Whether some used record is broken.
-    fn any_broken(self, n: Count) -> bool
-        requires { ⌜ self .count ≤ recordLimit ⌝ }
-        ensures { λ r. ⌜ r ≡ any (brokenRecord n) (used self) ⌝ }
-    {
-        let mut i = 0;
-        while i < self.count {
-            let q = self.records[i];
-            if broken(q, n) {
-                return true;
-            }
-            i += 1;
-        }
-        false
-    }
-
-    // Check 2 on the list, with n readings taken: more than 32 queries, a broken record, or two that share a number.
+    // Check 2 on the list, with n readings taken: more than 32 queries, a broken record, or two that share a number. One look at each used record says whether one is broken, and whether
+    // the numbers ascend: then no two are the same, and they need not be compared with each other.
     pub fn damaged(self, n: Count) -> bool
         ensures { λ r. ⌜ r ≡ damaged n (self .count) (used self) ⌝ }
     {
         if RECORDS < self.count {
             return true;
         }
-        if self.any_broken(n) {
+        let mut bad = false;
+        let mut up = true;
+        let mut last = 0;
+        let mut i = 0;
+        while i < self.count {
+            let q = self.records[i];
+            bad = either(bad, broken(q, n));
+            up = both(up, last < q.number);
+            last = q.number;
+            i += 1;
+        }
+        if bad {
             return true;
+        }
+        if up {
+            return false;
         }
         let numbers = self.numbers();
         repeats(numbers, self.count)
@@ -158,13 +157,16 @@ impl Queries {
         Verdict::Refused(Refusal::NotRegistered)
     }
 
-    // Checks 10 and 11, with n readings taken and an answer table of this many places.
+    // Checks 10 and 11, with n readings taken and an answer table of this many places. Where there are places for all queries, it is not asked how many are due.
     pub fn check_reading(self, n: Count, places: usize) -> Verdict
         requires { ⌜ (self .count ≤ recordLimit) × Each Limits (used self) ⌝ }
         ensures { λ r. ⌜ r ≡ firstRefusal (readingChecks n (used self) places) ⌝ }
     {
         if COUNT_LIMIT <= n {
             return Verdict::Refused(Refusal::CountExhausted);
+        }
+        if ANSWER_PLACES * self.count <= places {
+            return Verdict::Passed;
         }
         if places < ANSWER_PLACES * self.due_count(n + 1) {
             return Verdict::Refused(Refusal::AnswersTooShort);

@@ -10,6 +10,9 @@ use Rattle.engine.proofs.calls.totals.Tie as tie
 enough-requires : tie.Need-enough-requires
 enough-requires c κs = search needs
 
+damaged-requires : tie.Need-damaged-requires
+damaged-requires c κs = search needs
+
 judge-requires : tie.Need-judge-requires
 judge-requires c κs = search needs
 
@@ -19,7 +22,7 @@ enum-known-refusal c = search needs
 returns : tie.Need-returns
 returns c =
     let j = c .before .before .before in
-    refused-call calls.totals _ _ _ _ refl refl (j .before .enough .ensures) (j .judge .ensures) (c .before .refusal .given .1)
+    refused-call calls.totals _ _ _ _ refl refl (j .before .before .enough .ensures) (j .judge .ensures _ (j .before .damaged .ensures)) (c .before .refusal .given .1)
 
 enum-told : tie.Need-enum-told
 enum-told c = search needs
@@ -28,7 +31,7 @@ returns-2 : tie.Need-returns-2
 returns-2 c =
     let p = c .before .before in
     let j = p .before .before in
-    accepted-totals _ (all-pass calls.totals _ _ _ (j .before .enough .ensures) (j .judge .ensures) (p .enum-told .given .1))
+    accepted-totals _ (all-pass calls.totals _ _ _ (j .before .before .enough .ensures) (j .judge .ensures _ (j .before .damaged .ensures)) (p .enum-told .given .1))
 
 pub totals-spec : {M : Type 1} → statement M
-totals-spec = tie.close (tie.spec enough-requires judge-requires enum-known-refusal returns enum-told returns-2)
+totals-spec = tie.close (tie.spec enough-requires damaged-requires judge-requires enum-known-refusal returns enum-told returns-2)
