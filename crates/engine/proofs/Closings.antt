@@ -68,3 +68,7 @@ pub closed-there : (b found : Bool) (h : ℕ) (st : State) (t : Tables) → foun
     → ClosedWhere b h st t st′ t′
 unfolding ClosedWhere
 closed-there b found h st t same st′ t′ e c = subst (λ (x : Bool). ClosedWhere x h st t st′ t′) (sym e ∙ same) c
+
+-- the same by an equal horizon
+pub closed-at : (p : Open) (h h′ : ℕ) (st : State) (t : Tables) (st′ : State) (t′ : Tables) → h ≡ h′ → OpenClosed p h st t st′ t′ → OpenClosed p h′ st t st′ t′
+closed-at p h h′ st t st′ t′ e c = subst (λ (k : ℕ). OpenClosed p k st t st′ t′) e c

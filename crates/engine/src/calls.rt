@@ -9,12 +9,15 @@ use crate::tables::enough;
 use crate::tables::zero_starts;
 use crate::tables::zero_sums;
 use crate::tables::zero_values;
+use registry::checks::COUNT_LIMIT;
 use registry::queries::Queries;
 use window::query::Count;
 use window::query::Query;
 use window::refusal::Refusal;
 use window::refusal::Verdict;
 ghost use mathlib.Core.Path.{_≡_};
+ghost use Prim.Native.Nat.{_+_, _<_, _≤_};
+ghost use Rattle.window.specs.Queries.{countLimit};
 ghost use Rattle.window.specs.Calls.{start, register, withdraw, reading, totals};
 ghost use Rattle.engine.specs.Tables.{tables};
 ghost use Rattle.engine.specs.Machine.{machine};
@@ -72,6 +75,13 @@ fn accepted_reading(state: State, answers: usize) -> ReadingReply
 {
     let outcome = Answered::Answers(answers);
     ReadingReply { outcome, state }
+}
+
+// The count after n. The greatest count has none, and stays; a reading is refused there.
+fn next_count(n: Count) -> Count
+    ensures { λ r. ⌜ (n ≤ r) × (n < countLimit → r ≡ n + 1) ⌝ }
+{
+    if n < COUNT_LIMIT { n + 1 } else { n }
 }
 
 // Start: everything empty. The first 4,096 places of each table become 0.
@@ -154,8 +164,9 @@ pub fn register(
     if let Verdict::Refused(refusal) = judge_register(long, state, queries, q) {
         return refused(state, queries, refusal);
     }
+    let horizon = queries.horizon(state.count);
     let closed = state.close_open(
-        queries,
+        horizon,
         starts,
         sums,
         max_starts,
@@ -273,15 +284,22 @@ pub fn reading(
         min_starts.len(),
         min_values.len(),
     );
-    if let Verdict::Refused(refusal) = judge_reading(long, state, queries, answers.len()) {
+    let scan = queries.scan(state.count, next_count(state.count));
+    if let Verdict::Refused(refusal) = judge_reading(
+        long,
+        scan.damaged,
+        state,
+        queries,
+        answers.len(),
+    ) {
         return refused_reading(state, refusal);
     }
     let taken = state.with_reading(value);
-    if !queries.any_edge(taken.count) {
+    if !scan.edge {
         return accepted_reading(taken, 0);
     }
     let closed = taken.close_open(
-        queries,
+        scan.horizon,
         starts,
         sums,
         max_starts,

@@ -47,11 +47,17 @@ pub(crate) fn judge_withdraw(long: bool, state: State, queries: Queries, number:
     queries.check_withdraw(number)
 }
 
-// Checks 1, 2, 10 and 11.
-pub(crate) fn judge_reading(long: bool, state: State, queries: Queries, places: usize) -> Verdict
+// Checks 1, 2, 10 and 11, with what the query list's part of check 2 came to.
+pub(crate) fn judge_reading(
+    long: bool,
+    broken: bool,
+    state: State,
+    queries: Queries,
+    places: usize,
+) -> Verdict
+    requires { ⌜ broken ≡ damaged (state .count) (queries .count) (used queries) ⌝ }
     ensures { λ r. ⌜ Judged long state queries (firstRefusal (readingChecks (state .count) (used queries) places)) r ⌝ }
 {
-    let broken = queries.damaged(state.count);
     if let Verdict::Refused(refusal) = judge(long, broken, state) {
         return Verdict::Refused(refusal);
     }

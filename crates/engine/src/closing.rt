@@ -3,15 +3,9 @@ use crate::partial::Aggregate;
 use crate::partial::Open;
 use crate::state::State;
 use deque::compare::Extreme;
-use registry::queries::Queries;
 use window::query::Count;
-use window::query::Query;
 ghost use mathlib.Core.Path.{_≡_};
 ghost use mathlib.Core.Bool.{true};
-ghost use Prim.Native.Nat.{_≤_};
-ghost use Rattle.window.specs.Lists.{Each};
-ghost use Rattle.window.specs.Queries.{horizon};
-ghost use Rattle.registry.specs.Records.{recordLimit, used};
 ghost use Rattle.engine.specs.Tables.{tables, longEnough};
 ghost use Rattle.engine.specs.Closings.{Ready, Closed, OpenClosed};
 
@@ -67,7 +61,7 @@ impl State {
     // What is open closes, where it holds a reading.
     pub(crate) fn close_open(
         self,
-        queries: Queries,
+        horizon: Count,
         starts: &mut [Count],
         sums: &mut [i64],
         max_starts: &mut [Count],
@@ -76,9 +70,8 @@ impl State {
         min_values: &mut [i32],
     ) -> State
         requires { ⌜ Ready self
-            × (queries .count ≤ recordLimit) × Each (λ (q : Query). q .origin ≤ self .count) (used queries)
             × (longEnough (tables (now starts) (now sums) (now «max_starts») (now «max_values») (now «min_starts») (now «min_values»)) ≡ true) ⌝ }
-        ensures { λ r. ⌜ OpenClosed (self .partial) (horizon (self .count) (used queries))
+        ensures { λ r. ⌜ OpenClosed (self .partial) horizon
             self (tables (now (starts .entry)) (now (sums .entry)) (now («max_starts» .entry)) (now («max_values» .entry)) (now («min_starts» .entry)) (now («min_values» .entry)))
             r (tables (now (starts .exit)) (now (sums .exit)) (now («max_starts» .exit)) (now («max_values» .exit)) (now («min_starts» .exit)) (now («min_values» .exit))) ⌝ }
     {
@@ -86,19 +79,16 @@ impl State {
         match partial {
             Open::Nothing => self,
             Open::Empty => self,
-            Open::Holding(a) => {
-                let horizon = queries.horizon(self.count);
-                self.close(
-                    a,
-                    horizon,
-                    starts,
-                    sums,
-                    max_starts,
-                    max_values,
-                    min_starts,
-                    min_values,
-                )
-            }
+            Open::Holding(a) => self.close(
+                a,
+                horizon,
+                starts,
+                sums,
+                max_starts,
+                max_values,
+                min_starts,
+                min_values,
+            ),
         }
     }
 }

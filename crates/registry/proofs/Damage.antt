@@ -1,7 +1,7 @@
 -- The laws of check 2 on records: what the checks of the fields leave of a broken one, numbers that repeat, and the whole check.
 -- Assumes nothing.
 use mathlib.Core.Path.{_≡_, refl, sym, ap, ap₂, _∙_}
-use mathlib.Core.Bool.{Bool, true, false, _&&_, _||_}
+use mathlib.Core.Bool.{Bool, true, false, _||_}
 use mathlib.Core.List.{List, [], _∷_, _++_}
 use Prim.Native.Nat.{ℕ, zero, suc, _+_, _≤_, _<_}
 use native.Mathlib.Numerals.{add-one}
@@ -69,25 +69,6 @@ ascends-repeats last [] e = refl
 ascends-repeats last (k ∷ ks) e =
     let a : ascends k ks ≡ true = and-right (ltb last k) (ascends k ks) e in
     rw (ascends-none k k ks (omega arith) a) (ascends-repeats k ks a)
-
--- from place i on: with this many turns made, that the numbers so far ascend and the rest does
-pub ascends-next : (qs : List Query) (c i last : ℕ) (up next whole : Bool) → i < c → c ≤ length qs → whole ≡ (up && ascends last (numbersOf (drop i (take c qs)))) → next ≡ (up && ltb last (getD qs i unused .number))
-    → whole ≡ (next && ascends (getD qs i unused .number) (numbersOf (drop (i + 1) (take c qs))))
-ascends-next qs c i last up next whole l w e n =
-    e ∙ ap (λ (rs : List Query). up && ascends last (numbersOf rs)) (rest-cons qs c i unused l w) ∙ grouped up (ltb last (getD qs i unused .number)) (ascends (getD qs i unused .number) (numbersOf (drop (i + 1) (take c qs))))
-    ∙ ap (λ (b : Bool). b && ascends (getD qs i unused .number) (numbersOf (drop (i + 1) (take c qs)))) (sym n)
-  where
-    grouped : (a b d : Bool) → (a && (b && d)) ≡ ((a && b) && d)
-    grouped true b d = refl
-    grouped false b d = refl
-
--- at the end nothing is left
-pub ascends-all : (qs : List Query) (c i last : ℕ) (up whole : Bool) → c ≤ i → whole ≡ (up && ascends last (numbersOf (drop i (take c qs)))) → up ≡ whole
-ascends-all qs c i last up whole l e = sym (e ∙ ap (λ (rs : List Query). up && ascends last (numbersOf rs)) (rest-ended qs c i l) ∙ same up)
-  where
-    same : (b : Bool) → (b && true) ≡ b
-    same true = refl
-    same false = refl
 
 -- the first c numbers are those of the first c records
 take-numbers : (c : ℕ) (qs : List Query) → take c (numbersOf qs) ≡ numbersOf (take c qs)

@@ -21,16 +21,16 @@ use Rattle.registry.specs.Records.{recordLimit, used}
 -- ---- a record that is not broken
 
 -- its fields are within their limits
-sound-limits : (n : ℕ) (q : Query) → brokenRecord n q ≡ false → Limits q
+pub sound-limits : (n : ℕ) (q : Query) → brokenRecord n q ≡ false → Limits q
 sound-limits n q h =
     fields-passed q (any-passed (fieldChecks (q .number) (q .kind) (q .range) (q .slide)) (not-left (any applying (fieldChecks (q .number) (q .kind) (q .range) (q .slide))) (ltb n (q .origin)) h))
 
 -- it was registered at n or before
-sound-origin : (n : ℕ) (q : Query) → brokenRecord n q ≡ false → q .origin ≤ n
+pub sound-origin : (n : ℕ) (q : Query) → brokenRecord n q ≡ false → q .origin ≤ n
 sound-origin n q h = ltb-false n (q .origin) (not-right (any applying (fieldChecks (q .number) (q .kind) (q .range) (q .slide))) (ltb n (q .origin)) h)
 
 -- where no record is broken, P of each that a record has that is not broken
-sound-each : (P : Query → Type 0) (n : ℕ) → ((q : Query) → brokenRecord n q ≡ false → P q) → (qs : List Query) → any (brokenRecord n) qs ≡ false → Each P qs
+pub sound-each : (P : Query → Type 0) (n : ℕ) → ((q : Query) → brokenRecord n q ≡ false → P q) → (qs : List Query) → any (brokenRecord n) qs ≡ false → Each P qs
 sound-each P n f [] h = tt
 sound-each P n f (q ∷ qs) h = (f q (not-left (brokenRecord n q) (any (brokenRecord n) qs) h), sound-each P n f qs (not-right (brokenRecord n q) (any (brokenRecord n) qs) h))
 

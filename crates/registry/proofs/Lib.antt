@@ -4,3 +4,4 @@ pub mod Joining
 pub mod Damage
 pub mod Verdicts
 pub mod Finding
+pub mod Looking

@@ -23,7 +23,7 @@ pub const COUNT_LIMIT: Count = 4_294_967_295;
 pub const ANSWER_PLACES: usize = 4;
 
 // Both of two tests.
-fn both(a: bool, b: bool) -> bool
+pub(crate) fn both(a: bool, b: bool) -> bool
     ensures { λ r. ⌜ r ≡ (a && b) ⌝ }
 {
     if a { b } else { false }
@@ -37,7 +37,7 @@ fn either(a: bool, b: bool) -> bool
 }
 
 // Whether a used record breaks 3 to 6, or was registered after n.
-fn broken(q: Query, n: Count) -> bool
+pub(crate) fn broken(q: Query, n: Count) -> bool
     ensures { λ r. ⌜ r ≡ brokenRecord n q ⌝ }
 {
     match check_fields(q.number, q.kind, q.range, q.slide) {
@@ -69,7 +69,7 @@ fn occurs(number: u32, numbers: [u32; 32], i: usize, end: usize) -> bool
 }
 
 // Whether two of the first `end` numbers are the same.
-fn repeats(numbers: [u32; 32], end: usize) -> bool
+pub(crate) fn repeats(numbers: [u32; 32], end: usize) -> bool
     requires { ⌜ end ≤ recordLimit ⌝ }
     ensures { λ r. ⌜ r ≡ repeats (take end numbers) ⌝ }
 {
@@ -84,7 +84,7 @@ fn repeats(numbers: [u32; 32], end: usize) -> bool
 
 impl Queries {
     // The numbers of the records, in a plain array.
-    fn numbers(self) -> [u32; 32]
+    pub(crate) fn numbers(self) -> [u32; 32]
         ensures { λ r. ⌜ r ≡ numbersOf (self .records) ⌝ }
     {
         let mut numbers = [0; 32];
@@ -97,33 +97,12 @@ impl Queries {
         numbers
     }
 
-    // Check 2 on the list, with n readings taken: more than 32 queries, a broken record, or two that share a number. One look at each used record says whether one is broken, and whether
-    // the numbers ascend: then no two are the same, and they need not be compared with each other.
+    // Check 2 on the list, with n readings taken: more than 32 queries, a broken record, or two that share a number.
     pub fn damaged(self, n: Count) -> bool
         ensures { λ r. ⌜ r ≡ damaged n (self .count) (used self) ⌝ }
     {
-        if RECORDS < self.count {
-            return true;
-        }
-        let mut bad = false;
-        let mut up = true;
-        let mut last = 0;
-        let mut i = 0;
-        while i < self.count {
-            let q = self.records[i];
-            bad = either(bad, broken(q, n));
-            up = both(up, last < q.number);
-            last = q.number;
-            i += 1;
-        }
-        if bad {
-            return true;
-        }
-        if up {
-            return false;
-        }
-        let numbers = self.numbers();
-        repeats(numbers, self.count)
+        let scan = self.scan(n, n);
+        scan.damaged
     }
 
     // Checks 3 to 8.

@@ -1,6 +1,7 @@
 -- `reading` meets its contract: a check refuses it, or it is taken, what is open closes at an edge, and the due queries are answered.
 -- Assumes nothing.
 use mathlib.Core.Path.{_≡_, sym, ap, _∙_, subst}
+use mathlib.Core.Bool.{false}
 use Prim.Native.Nat.{ℕ, _≤_}
 use borrow.Author.Tests.{not-true, not-false}
 use borrow.Author.Needs.{needs}
@@ -9,7 +10,7 @@ use lib.ListN.{length}
 use mir.Facts.{toZ-ofZ}
 use Rattle.window.specs.declared.query.Query.{Query}
 use Rattle.window.specs.Lists.{any, Each}
-use Rattle.window.specs.Queries.{Limits, edge}
+use Rattle.window.specs.Queries.{Limits, edge, horizon}
 use Rattle.window.specs.Calls as calls
 use Rattle.window.proofs.Refusals.{Counts, reading-passed}
 use Rattle.registry.specs.Records.{recordLimit, used}
@@ -21,7 +22,7 @@ use Rattle.engine.specs.Closings.{Ready}
 use Rattle.engine.proofs.Taking.{taken-ready, taken-count, taken-origins, taken-closed, Left, open-left, due-fit}
 use Rattle.engine.proofs.Accepting.{Passes, all-pass, uncut-taken, accepted-reading}
 use Rattle.engine.proofs.Keeping.{closed-long}
-use Rattle.engine.proofs.Closings.{closed-there}
+use Rattle.engine.proofs.Closings.{closed-there, closed-at}
 use Rattle.engine.proofs.Refusing.{refused-reading}
 use Rattle.engine.proofs.calls.reading.Statement.{statement}
 use Rattle.engine.proofs.calls.reading.Tie as tie
@@ -37,7 +38,7 @@ abbrev asked : tie.Start → calls.Call
 asked s = calls.reading (s .args .value) (length (s .args .answers .now))
 
 abbrev began : tie.After-judge-reading → tie.Start
-began j = j .before .before .before .before .before
+began j = j .before .before .before .before .before .before .before
 
 abbrev begun : tie.After-enum-told → tie.Start
 begun c = began (c .before .before)
@@ -46,7 +47,7 @@ begun c = began (c .before .before)
 checked : (c : tie.After-enum-told) → Passes (asked (begun c)) (given (begun c))
 checked c =
     let j = c .before .before in
-    all-pass (asked (began j)) (given (began j)) _ _ (j .before .enough .ensures) (j .judge-reading .ensures) (c .enum-told .given .1)
+    all-pass (asked (began j)) (given (began j)) _ _ (j .before .before .before .enough .ensures) (j .judge-reading .ensures) (c .enum-told .given .1)
 
 -- so n can grow, and the answers fit their table
 counts : (c : tie.After-enum-told) → Counts (begun c .args .state .count) (used (begun c .args .queries)) (length (begun c .args .answers .now))
@@ -83,6 +84,22 @@ origins-taken w =
     let a = begun (w .before) .args in
     taken-origins (a .value) (a .state) (w .with-reading .result) (is w) (used (a .queries)) (origins (w .before))
 
+-- what the scan of the list found, of the count with the reading
+abbrev found : tie.After-with-reading → tie.After-scan
+found w = w .before .before .before .before
+
+intact : (w : tie.After-with-reading) → found w .scan .result .damaged ≡ false
+intact w = found w .scan .ensures .0 ∙ checked (w .before) .intact .list
+
+grown : (w : tie.After-with-reading) → found w .before .next-count .result ≡ w .with-reading .result .count
+grown w = let a = begun (w .before) .args in found w .before .next-count .ensures .1 (counts (w .before) .room) ∙ sym (taken-count (a .value) (a .state) (w .with-reading .result) (is w))
+
+edge-is : (w : tie.After-with-reading) → found w .scan .result .edge ≡ any (edge (w .with-reading .result .count)) (used (begun (w .before) .args .queries))
+edge-is w = found w .scan .ensures .1 .0 (intact w) ∙ ap (λ (k : ℕ). any (edge k) (used (begun (w .before) .args .queries))) (grown w)
+
+horizon-is : (w : tie.After-with-reading) → found w .scan .result .horizon ≡ horizon (w .with-reading .result .count) (used (begun (w .before) .args .queries))
+horizon-is w = found w .scan .ensures .1 .1 (intact w) (found w .before .next-count .ensures .0) ∙ ap (λ (k : ℕ). horizon k (used (begun (w .before) .args .queries))) (grown w)
+
 -- the place where an edge was found, from that after the closing; the place after the closing, from that before the answers
 abbrev cut : tie.After-close-open → tie.Else1
 cut d = d .before .before .before .before .before .before .before
@@ -97,8 +114,14 @@ left d = open-left (told (cut d) .with-reading .result .partial) _ _ _ _ _ (read
 enough-requires : tie.Need-enough-requires
 enough-requires c κs = search needs
 
+next-count-requires : tie.Need-next-count-requires
+next-count-requires c κs = search needs
+
+scan-requires : tie.Need-scan-requires
+scan-requires c κs = search needs
+
 judge-reading-requires : tie.Need-judge-reading-requires
-judge-reading-requires c κs = search needs
+judge-reading-requires c κs = c .scan .ensures .0
 
 enum-known-refusal : tie.Need-enum-known-refusal
 enum-known-refusal c = search needs
@@ -110,16 +133,13 @@ returns : tie.Need-returns
 returns c =
     let j = c .before .before .before .before in
     let s = began j in
-    refused-reading (s .args .value) (s .args .answers .now) (given s) _ _ _ (j .before .enough .ensures) (j .judge-reading .ensures) (c .before .before .refusal .given .1) _ (c .refused-reading .ensures)
+    refused-reading (s .args .value) (s .args .answers .now) (given s) _ _ _ (j .before .before .before .enough .ensures) (j .judge-reading .ensures) (c .before .before .refusal .given .1) _ (c .refused-reading .ensures)
 
 enum-told : tie.Need-enum-told
 enum-told c = search needs
 
 with-reading-requires : tie.Need-with-reading-requires
 with-reading-requires c κs = (checked c .intact .state, counts c .room)
-
-any-edge-requires : tie.Need-any-edge-requires
-any-edge-requires c κs = (few (c .before), limits (c .before))
 
 accepted-reading-requires : tie.Need-accepted-reading-requires
 accepted-reading-requires c κs = search needs
@@ -132,13 +152,13 @@ returns-2 c =
     let n = taken-count (s .args .value) (s .args .state) (w .with-reading .result) (is w) in
     accepted-reading (s .args .value) (s .args .answers .now) _ (given s) _ _ _ _ (checked (w .before)) (s .fits .value)
     (uncut-taken (s .args .value) (s .args .answers .now) (given s) (w .with-reading .result) (is w)
-    (ap (λ (k : ℕ). any (edge k) (used (s .args .queries))) (sym n) ∙ sym (t .before .any-edge .ensures) ∙ not-true _ (t .if1 .taken)))
+    (ap (λ (k : ℕ). any (edge k) (used (s .args .queries))) (sym n) ∙ sym (edge-is w) ∙ not-true _ (t .if1 .taken)))
     _ (c .accepted-reading .ensures)
 
 close-open-requires : tie.Need-close-open-requires
 close-open-requires c κs =
     let w = told (c .before .before .before .before .before .before) in
-    (ready w, few (w .before), origins-taken w, checked (w .before) .long)
+    (ready w, checked (w .before) .long)
 
 answer-due-requires : tie.Need-answer-due-requires
 answer-due-requires c κs =
@@ -191,7 +211,7 @@ returns-3 c =
     accepted-reading (s .args .value) (s .args .answers .now) _ (given s) _ _ _ _ (checked (w .before)) (s .fits .value)
     (record {
       closed = taken-closed (s .args .value) (s .args .state) (w .with-reading .result) (is w) (used (s .args .queries)) _ _ _
-          (closed-there _ _ _ _ _ (t .before .any-edge .ensures) _ _ (not-false _ (t .if1 .left)) (d .close-open .ensures));
+          (closed-there _ _ _ _ _ (edge-is w) _ _ (not-false _ (t .if1 .left)) (closed-at (w .with-reading .result .partial) _ _ _ _ _ _ (horizon-is w) (d .close-open .ensures)));
       number = f .answer-due .ensures .1 .1;
       written = f .answer-due .ensures .1 .2;
       answers = f .answer-due .ensures .1 .3;
@@ -203,13 +223,14 @@ reading-spec =
     tie.close
     (tie.spec
     enough-requires
+    next-count-requires
+    scan-requires
     judge-reading-requires
     enum-known-refusal
     refused-reading-requires
     returns
     enum-told
     with-reading-requires
-    any-edge-requires
     accepted-reading-requires
     returns-2
     close-open-requires

@@ -9,6 +9,7 @@ use Rattle.registry.proofs.Intact.{intact-few, intact-origins, used-count}
 use Rattle.registry.proofs.Scans.{mapped-length}
 use Rattle.engine.specs.Machine.{Machine, machine}
 use Rattle.engine.specs.Tables.{tables}
+use Rattle.engine.proofs.Closings.{closed-at}
 use Rattle.engine.proofs.Soundness.{sound-ready}
 use Rattle.engine.proofs.Accepting.{Passes, all-pass, joining, accepted-register}
 use Rattle.engine.proofs.Refusing.{refused-reply}
@@ -42,7 +43,7 @@ abbrev closing : tie.After-min-values → tie.After-close-open
 closing c = c .before .before .before .before .before .before .before .before .before
 
 abbrev passed : tie.After-close-open-arg6 → tie.After-enum-told
-passed c = c .before .before .before .before .before .before
+passed c = c .before .before .before .before .before .before .before
 
 enough-requires : tie.Need-enough-requires
 enough-requires c κs = search needs
@@ -64,14 +65,18 @@ returns c =
 enum-told : tie.Need-enum-told
 enum-told c = search needs
 
+horizon-requires : tie.Need-horizon-requires
+horizon-requires c κs =
+    let a = begun c .args in
+    let i = checked c .intact .list in
+    (intact-few (a .state .count) (a .queries .count) (used (a .queries)) i, intact-origins (a .state .count) (a .queries .count) (used (a .queries)) i)
+
 close-open-requires : tie.Need-close-open-requires
 close-open-requires c κs =
     let e = passed c in
     let s = begun e in
     let p = checked e in (
       sound-ready (s .args .state) (p .intact .state) (omega (arith, s .good .0 .1 .1 .0)),
-      intact-few (s .args .state .count) (s .args .queries .count) (used (s .args .queries)) (p .intact .list),
-      intact-origins (s .args .state .count) (s .args .queries .count) (used (s .args .queries)) (p .intact .list),
       p .long,
     )
 
@@ -114,7 +119,7 @@ returns-2 c =
     let e = passed (d .before) in
     let s = begun e in
     accepted-register (s .args .number) (s .args .kind) (s .args .range) (s .args .slide) (given s) (d .close-open .result) _ _ _ (checked e)
-    (d .close-open .ensures)
+    (closed-at (s .args .state .partial) _ _ _ _ _ _ (d .before .before .before .before .before .before .before .horizon .ensures) (d .close-open .ensures))
     (c .joined-by .ensures .0) (c .joined-by .ensures .1 .0) (c .joined-by .ensures .1 .1 .0) (c .before .with-partial .ensures)
 
 pub register-spec : {M : Type 1} → statement M
@@ -127,6 +132,7 @@ register-spec =
     refused-requires
     returns
     enum-told
+    horizon-requires
     close-open-requires
     with-partial-requires
     joined-by-requires

@@ -8,9 +8,6 @@ use Rattle.engine.proofs.Judging.{judged-first, judged-passed, judged-l
 use Rattle.engine.proofs.checks.judge_reading.Statement.{statement}
 use Rattle.engine.proofs.checks.judge_reading.Tie as tie
 
-damaged-requires : tie.Need-damaged-requires
-damaged-requires c κs = search needs
-
 judge-requires : tie.Need-judge-requires
 judge-requires c κs = search needs
 
@@ -20,8 +17,8 @@ enum-known-refusal c = search needs
 returns : tie.Need-returns
 returns c =
     let j = c .before .before .before in
-    let a = j .before .before .args in
-    judged-first (a .long) (a .state) (a .queries) _ _ _ (j .judge .ensures (a .queries) (j .before .damaged .ensures)) (c .before .refusal .given .1)
+    let a = j .before .args in
+    judged-first (a .long) (a .state) (a .queries) _ _ _ (j .judge .ensures (a .queries) (j .before .pre)) (c .before .refusal .given .1)
 
 enum-told : tie.Need-enum-told
 enum-told c = search needs
@@ -29,15 +26,15 @@ enum-told c = search needs
 check-reading-requires : tie.Need-check-reading-requires
 check-reading-requires c κs =
     let j = c .before .before in
-    let a = j .before .before .args in
-    let i = judged-passed (a .long) (a .state) (a .queries) Passed _ (j .judge .ensures (a .queries) (j .before .damaged .ensures)) (c .enum-told .given .1) .1 in
+    let a = j .before .args in
+    let i = judged-passed (a .long) (a .state) (a .queries) Passed _ (j .judge .ensures (a .queries) (j .before .pre)) (c .enum-told .given .1) .1 in
     (intact-few (a .state .count) (a .queries .count) (used (a .queries)) (i .list), intact-limits (a .state .count) (a .queries .count) (used (a .queries)) (i .list))
 
 returns-2 : tie.Need-returns-2
 returns-2 c =
     let j = c .before .before .before in
-    let a = j .before .before .args in
-    judged-last (a .long) (a .state) (a .queries) (firstRefusal (readingChecks (a .state .count) (used (a .queries)) (a .places))) _ _ (j .judge .ensures (a .queries) (j .before .damaged .ensures)) (c .before .enum-told .given .1) (c .check-reading .ensures)
+    let a = j .before .args in
+    judged-last (a .long) (a .state) (a .queries) (firstRefusal (readingChecks (a .state .count) (used (a .queries)) (a .places))) _ _ (j .judge .ensures (a .queries) (j .before .pre)) (c .before .enum-told .given .1) (c .check-reading .ensures)
 
 pub judge-reading-spec : {M : Type 1} → statement M
-judge-reading-spec = tie.close (tie.spec damaged-requires judge-requires enum-known-refusal returns enum-told check-reading-requires returns-2)
+judge-reading-spec = tie.close (tie.spec judge-requires enum-known-refusal returns enum-told check-reading-requires returns-2)

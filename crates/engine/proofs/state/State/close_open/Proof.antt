@@ -1,14 +1,15 @@
 -- `State::close_open` meets its contract: an open partial that holds a reading closes, and otherwise nothing changes. Assumes nothing.
+use mathlib.Core.Path.{refl}
 use borrow.Author.Needs.{needs}
 use Rattle.engine.proofs.Closings.{nothing-closed, empty-closed, holding-closed}
 use Rattle.engine.proofs.state.State.close_open.Statement.{statement}
 use Rattle.engine.proofs.state.State.close_open.Tie as tie
 
--- the place after the closing, from the end; the place after the horizon was found; and the start
+-- the place after the closing, from the end; the place where it begins; and the start
 abbrev closing : tie.After-min-values → tie.After-close
 closing c = c .before .before .before .before .before .before .before .before .before
 
-abbrev found : tie.After-close → tie.After-horizon
+abbrev found : tie.After-close → tie.After-known-told
 found c = c .before .before .before .before .before .before .before
 
 abbrev began : tie.After-partial → tie.Start
@@ -23,14 +24,11 @@ enum-told-2 c = search needs
 enum-known-partial : tie.Need-enum-known-partial
 enum-known-partial c = search needs
 
-horizon-requires : tie.Need-horizon-requires
-horizon-requires c κs = let s = began (c .before) in (s .pre .1, s .pre .2)
-
 close-requires : tie.Need-close-requires
 close-requires c κs =
-    let p = c .before .before .before .before .before .before .before .before in
+    let p = c .before .before .before .before .before .before .before in
     let s = began p in
-    (s .pre .0, p .partial .given .1, s .pre .3)
+    (s .pre .0, p .partial .given .1, s .pre .1)
 
 returns : tie.Need-returns
 returns c = nothing-closed _ _ _ _ (c .enum-told .given .1)
@@ -60,7 +58,7 @@ returns-3 : tie.Need-returns-3
 returns-3 c =
     let d = closing c in
     let h = found d in
-    holding-closed _ _ _ _ _ _ _ _ (h .before .before .partial .given .1) (h .horizon .ensures) (d .close .ensures)
+    holding-closed _ _ _ _ _ _ _ _ (h .before .partial .given .1) refl (d .close .ensures)
 
 pub close-open-spec : {M : Type 1} → statement M
 close-open-spec =
@@ -69,7 +67,6 @@ close-open-spec =
     enum-told
     enum-told-2
     enum-known-partial
-    horizon-requires
     close-requires
     returns
     returns-2
