@@ -1,0 +1,84 @@
+// The proved engine through the static library: bindings/c/pchelodar.h has the calls. The slices are lent anew at each call.
+use crate::contender::{Answers, Contender, Query};
+
+const STATE_NUMBERS: usize = 18;
+const LIST_NUMBERS: usize = 160;
+const TABLE_PLACES: usize = 4096;
+
+// What is lent to every call.
+pub struct Library {
+    state: [u64; STATE_NUMBERS],
+    queries: [u32; LIST_NUMBERS],
+    starts: [u32; TABLE_PLACES],
+    sums: [i64; TABLE_PLACES],
+    max_starts: [u32; TABLE_PLACES],
+    max_values: [i32; TABLE_PLACES],
+    min_starts: [u32; TABLE_PLACES],
+    min_values: [i32; TABLE_PLACES],
+}
+
+// Every call takes the eight slices first, a pointer and a number of places each; then its own arguments.
+macro_rules! calls {
+    ($($name:ident($($argument:ident: $type:ty),*);)*) => {
+        extern "C" {
+            $(fn $name(
+                state: *mut u64, state_places: usize, queries: *mut u32, queries_places: usize,
+                starts: *mut u32, starts_places: usize, sums: *mut i64, sums_places: usize,
+                max_starts: *mut u32, max_starts_places: usize, max_values: *mut i32, max_values_places: usize,
+                min_starts: *mut u32, min_starts_places: usize, min_values: *mut i32, min_values_places: usize,
+                $($argument: $type),*
+            ) -> u32;)*
+        }
+    };
+}
+
+calls! {
+    pchelodar_start();
+    pchelodar_register(number: u32, kind: u32, range: u32, slide: u32);
+    pchelodar_reading(answers: *mut i64, answers_places: usize, answered: *mut usize, value: i32);
+    pchelodar_totals(totals: *mut u64);
+}
+
+// Makes a call with the slices of `$of` lent, and stops where it is refused.
+macro_rules! call {
+    ($name:ident($of:expr $(, $argument:expr)*)) => {{
+        let of = $of;
+        let refusal = unsafe {
+            $name(
+                of.state.as_mut_ptr(), of.state.len(), of.queries.as_mut_ptr(), of.queries.len(),
+                of.starts.as_mut_ptr(), of.starts.len(), of.sums.as_mut_ptr(), of.sums.len(),
+                of.max_starts.as_mut_ptr(), of.max_starts.len(), of.max_values.as_mut_ptr(), of.max_values.len(),
+                of.min_starts.as_mut_ptr(), of.min_starts.len(), of.min_values.as_mut_ptr(), of.min_values.len(),
+                $($argument),*
+            )
+        };
+        assert_eq!(refusal, 0, "{} is refused", stringify!($name));
+    }};
+}
+
+impl Library {
+    pub fn new() -> Self {
+        let mut library = Library {
+            state: [0; STATE_NUMBERS], queries: [0; LIST_NUMBERS], starts: [0; TABLE_PLACES], sums: [0; TABLE_PLACES],
+            max_starts: [0; TABLE_PLACES], max_values: [0; TABLE_PLACES], min_starts: [0; TABLE_PLACES], min_values: [0; TABLE_PLACES],
+        };
+        call!(pchelodar_start(&mut library));
+        library
+    }
+}
+
+impl Contender for Library {
+    fn register(&mut self, q: Query) { call!(pchelodar_register(self, q.number, q.kind, q.range, q.slide)) }
+
+    fn reading(&mut self, value: i32, answers: &mut Answers) -> usize {
+        let mut answered = 0;
+        call!(pchelodar_reading(self, answers.as_mut_ptr(), answers.len(), &mut answered, value));
+        answered
+    }
+
+    fn totals(&mut self) -> Option<[u64; 4]> {
+        let mut totals = [0; 4];
+        call!(pchelodar_totals(self, totals.as_mut_ptr()));
+        Some(totals)
+    }
+}
