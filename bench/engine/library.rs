@@ -1,9 +1,11 @@
 // The proved engine through the static library: bindings/c/pchelodar.h has the calls. The slices are lent anew at each call.
 use crate::contender::{Answers, Contender, Query};
 
-const STATE_NUMBERS: usize = 18;
-const LIST_NUMBERS: usize = 160;
-const TABLE_PLACES: usize = 4096;
+#[path = "../../bindings/rust/pchelodar.rs"]
+mod pchelodar;
+use pchelodar::{raw, QUERY_LIMIT, STATE_NUMBERS, TABLE_PLACES};
+
+const LIST_NUMBERS: usize = 5 * QUERY_LIMIT;
 
 // What is lent to every call.
 pub struct Library {
@@ -17,34 +19,12 @@ pub struct Library {
     min_values: [i32; TABLE_PLACES],
 }
 
-// Every call takes the eight slices first, a pointer and a number of places each; then its own arguments.
-macro_rules! calls {
-    ($($name:ident($($argument:ident: $type:ty),*);)*) => {
-        extern "C" {
-            $(fn $name(
-                state: *mut u64, state_places: usize, queries: *mut u32, queries_places: usize,
-                starts: *mut u32, starts_places: usize, sums: *mut i64, sums_places: usize,
-                max_starts: *mut u32, max_starts_places: usize, max_values: *mut i32, max_values_places: usize,
-                min_starts: *mut u32, min_starts_places: usize, min_values: *mut i32, min_values_places: usize,
-                $($argument: $type),*
-            ) -> u32;)*
-        }
-    };
-}
-
-calls! {
-    pchelodar_start();
-    pchelodar_register(number: u32, kind: u32, range: u32, slide: u32);
-    pchelodar_reading(answers: *mut i64, answers_places: usize, answered: *mut usize, value: i32);
-    pchelodar_totals(totals: *mut u64);
-}
-
 // Makes a call with the slices of `$of` lent, and stops where it is refused.
 macro_rules! call {
     ($name:ident($of:expr $(, $argument:expr)*)) => {{
         let of = $of;
         let refusal = unsafe {
-            $name(
+            raw::$name(
                 of.state.as_mut_ptr(), of.state.len(), of.queries.as_mut_ptr(), of.queries.len(),
                 of.starts.as_mut_ptr(), of.starts.len(), of.sums.as_mut_ptr(), of.sums.len(),
                 of.max_starts.as_mut_ptr(), of.max_starts.len(), of.max_values.as_mut_ptr(), of.max_values.len(),

@@ -14,3 +14,4 @@ pub mod Keeping
 pub mod Refusing
 pub mod Accepting
 pub mod Agreement
+pub mod Carrying

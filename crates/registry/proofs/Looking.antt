@@ -21,6 +21,24 @@ use Rattle.registry.specs.Looks.{nothingSeen, seenWith, seenAll}
 use Rattle.registry.proofs.Intact.{sound-origin, sound-each}
 use Rattle.registry.proofs.Scans.{rest-cons, rest-ended}
 
+-- ---- tests
+
+or-last : (b : Bool) → (b || false) ≡ b
+or-last true = refl
+or-last false = refl
+
+and-last : (b : Bool) → (b && true) ≡ b
+and-last true = refl
+and-last false = refl
+
+or-grouped : (a b c : Bool) → ((a || b) || c) ≡ (a || (b || c))
+or-grouped true b c = refl
+or-grouped false b c = refl
+
+and-grouped : (a b c : Bool) → ((a && b) && c) ≡ (a && (b && c))
+and-grouped true b c = refl
+and-grouped false b c = refl
+
 -- ---- one query more
 
 -- a broken one
@@ -59,16 +77,8 @@ bad-with n m q s = go (brokenRecord n q) (s .bad)
     go false false = refl
 
 pub bad-all : (n m : ℕ) (s : Seen) (qs : List Query) → seenAll n m s qs .bad ≡ (s .bad || any (brokenRecord n) qs)
-bad-all n m s [] = sym (last (s .bad))
-  where
-    last : (b : Bool) → (b || false) ≡ b
-    last true = refl
-    last false = refl
-bad-all n m s (q ∷ qs) = bad-all n m (seenWith n m q s) qs ∙ ap (λ (b : Bool). b || any (brokenRecord n) qs) (bad-with n m q s) ∙ grouped (s .bad) (brokenRecord n q) (any (brokenRecord n) qs)
-  where
-    grouped : (a b c : Bool) → ((a || b) || c) ≡ (a || (b || c))
-    grouped true b c = refl
-    grouped false b c = refl
+bad-all n m s [] = sym (or-last (s .bad))
+bad-all n m s (q ∷ qs) = bad-all n m (seenWith n m q s) qs ∙ ap (λ (b : Bool). b || any (brokenRecord n) qs) (bad-with n m q s) ∙ or-grouped (s .bad) (brokenRecord n q) (any (brokenRecord n) qs)
 
 -- of a query that is not broken
 sound-with : (n m : ℕ) (q : Query) (s : Seen) → brokenRecord n q ≡ false
@@ -79,35 +89,19 @@ sound-with n m q s e = rw e refl
 module _ (n m : ℕ) where
   -- whether there is an edge
   pub edge-all : (s : Seen) (qs : List Query) → any (brokenRecord n) qs ≡ false → seenAll n m s qs .edge ≡ (s .edge || any (edge m) qs)
-  edge-all s [] h = sym (last (s .edge))
-    where
-      last : (b : Bool) → (b || false) ≡ b
-      last true = refl
-      last false = refl
+  edge-all s [] h = sym (or-last (s .edge))
   edge-all s (q ∷ qs) h =
       edge-all (seenWith n m q s) qs (not-right (brokenRecord n q) (any (brokenRecord n) qs) h)
       ∙ ap (λ (x : Seen). x .edge || any (edge m) qs) (sound-with n m q s (not-left (brokenRecord n q) (any (brokenRecord n) qs) h))
-      ∙ grouped (s .edge) (edge m q) (any (edge m) qs)
-    where
-      grouped : (a b c : Bool) → ((a || b) || c) ≡ (a || (b || c))
-      grouped true b c = refl
-      grouped false b c = refl
+      ∙ or-grouped (s .edge) (edge m q) (any (edge m) qs)
 
   -- whether the numbers ascend
   pub up-all : (s : Seen) (qs : List Query) → any (brokenRecord n) qs ≡ false → seenAll n m s qs .up ≡ (s .up && ascends (s .last) (numbersOf qs))
-  up-all s [] h = sym (last (s .up))
-    where
-      last : (b : Bool) → (b && true) ≡ b
-      last true = refl
-      last false = refl
+  up-all s [] h = sym (and-last (s .up))
   up-all s (q ∷ qs) h =
       up-all (seenWith n m q s) qs (not-right (brokenRecord n q) (any (brokenRecord n) qs) h)
       ∙ ap (λ (x : Seen). x .up && ascends (x .last) (numbersOf qs)) (sound-with n m q s (not-left (brokenRecord n q) (any (brokenRecord n) qs) h))
-      ∙ grouped (s .up) (ltb (s .last) (q .number)) (ascends (q .number) (numbersOf qs))
-    where
-      grouped : (a b c : Bool) → ((a && b) && c) ≡ (a && (b && c))
-      grouped true b c = refl
-      grouped false b c = refl
+      ∙ and-grouped (s .up) (ltb (s .last) (q .number)) (ascends (q .number) (numbersOf qs))
 
   -- the least start of a window
   pub least-all : (s : Seen) (qs : List Query) → s .least ≤ m → Each (λ (q : Query). q .origin ≤ m) qs → any (brokenRecord n) qs ≡ false → seenAll n m s qs .least ≡ min (s .least) (horizon m qs)
