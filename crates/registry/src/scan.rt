@@ -7,14 +7,14 @@ use crate::queries::RECORDS;
 use window::query::Count;
 use window::query::Query;
 ghost use mathlib.Core.Path.{_≡_};
-ghost use mathlib.Core.Bool.{false, _||_};
+ghost use mathlib.Core.Bool.{true, false, _||_};
 ghost use Prim.Native.Nat.{_≤_, min};
 ghost use lib.ListN.{length};
 ghost use Rattle.window.specs.Lists.{any, Each};
 ghost use Rattle.window.specs.Queries.{Limits, edge, horizon};
 ghost use Rattle.window.specs.Refusals.{damaged, dueAt};
 ghost use Rattle.registry.specs.Records.{recordLimit, used};
-ghost use Rattle.registry.specs.Looks.{seenWith};
+ghost use Rattle.registry.specs.Looks.{nothingSeen, seenWith};
 
 // What a look at some queries, one after the other, has shown, before a reading that makes the count m.
 pub(crate) struct Seen {
@@ -54,7 +54,42 @@ fn edge_or(found: bool, q: Query, m: Count) -> bool
     q.edge(m)
 }
 
+// Before the first query.
+fn nothing_seen(m: Count) -> Seen
+    ensures { λ r. ⌜ r ≡ nothingSeen m ⌝ }
+{
+    Seen {
+        bad: false,
+        up: true,
+        last: 0,
+        edge: false,
+        least: m,
+    }
+}
+
+// Of a list that is damaged no more is said.
+fn unusable(m: Count) -> Scan
+    ensures { λ r. ⌜ r ≡ record { damaged = true; edge = false; horizon = m } ⌝ }
+{
+    Scan {
+        damaged: true,
+        edge: false,
+        horizon: m,
+    }
+}
+
 impl Seen {
+    // After the last query, where no record is broken.
+    fn scanned(self, damaged: bool) -> Scan
+        ensures { λ r. ⌜ r ≡ record { damaged = damaged; edge = self .edge; horizon = self .least } ⌝ }
+    {
+        Scan {
+            damaged,
+            edge: self.edge,
+            horizon: self.least,
+        }
+    }
+
     // With one query more.
     fn with(self, q: Query, n: Count, m: Count) -> Seen
         ensures { λ r. ⌜ r ≡ seenWith n m q self ⌝ }
@@ -86,19 +121,9 @@ impl Queries {
         ensures horizon { λ r. ⌜ (r .damaged ≡ false → n ≤ m → r .horizon ≡ horizon m (used self)) ⌝ }
     {
         if RECORDS < self.count {
-            return Scan {
-                damaged: true,
-                edge: false,
-                horizon: m,
-            };
+            return unusable(m);
         }
-        let mut seen = Seen {
-            bad: false,
-            up: true,
-            last: 0,
-            edge: false,
-            least: m,
-        };
+        let mut seen = nothing_seen(m);
         let mut i = 0;
         while i < self.count {
             let q = self.records[i];
@@ -106,25 +131,14 @@ impl Queries {
             i += 1;
         }
         if seen.bad {
-            return Scan {
-                damaged: true,
-                edge: false,
-                horizon: m,
-            };
+            return unusable(m);
         }
         if seen.up {
-            return Scan {
-                damaged: false,
-                edge: seen.edge,
-                horizon: seen.least,
-            };
+            return seen.scanned(false);
         }
         let numbers = self.numbers();
-        Scan {
-            damaged: repeats(numbers, self.count),
-            edge: seen.edge,
-            horizon: seen.least,
-        }
+        let damaged = repeats(numbers, self.count);
+        seen.scanned(damaged)
     }
 
     // The horizon at n: the least start of a window.
