@@ -1,5 +1,6 @@
-// Benchmark of the engine alone, without text lines: the proved library against three plain ways to do the same in Rust, side by side in
-// one run over the same stream. `bench/run` builds and runs it; bench/README.md says how it measures.
+// Benchmark of the engine alone, without text lines: the proved library against three plain ways to do the same in
+// Rust, side by side in one run over the same stream. `bench/run` builds and runs it; bench/README.md says how it
+// measures.
 #[path = "engine/clock.rs"]
 mod clock; // processor time
 #[path = "engine/contender.rs"]

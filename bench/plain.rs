@@ -1,6 +1,6 @@
-// The session program once more, in plain Rust: what the proved program is timed against. It keeps its state to itself, so it never
-// has to judge whether that state is sound. Without an argument it is the session program; `generate NAME` and `measure PROGRAM`
-// serve the benchmark (runs.rs).
+// The session program once more, in plain Rust: what the proved program is timed against. It keeps its state to itself,
+// so it never has to judge whether that state is sound. Without an argument it is the session program; `generate NAME`
+// and `measure PROGRAM` serve the benchmark (runs.rs).
 mod runs;
 use std::io::{self, BufRead, Read, Write};
 use std::process::exit;
@@ -10,7 +10,8 @@ const CHUNK: usize = 65_536; // bytes a read or a write
 const LONGEST: usize = 64; // bytes of a line
 const ROOM: usize = 32 * 64; // more bytes than the answers of one reading take
 
-// A ring of entries by start. `head` and `tail` only ever count; the place of an entry is its count modulo the capacity.
+// A ring of entries by start. `head` and `tail` only ever count; the place of an entry is its count modulo the
+// capacity.
 struct Ring<T> {
     entries: Box<[(u32, T); CAPACITY]>,
     head: usize,
@@ -34,7 +35,8 @@ impl<T: Copy + Default> Ring<T> {
         while self.head < self.tail && self.at(self.head).0 < horizon { self.head += 1 }
     }
 
-    // The value of the first entry that starts at `from` or later, by binary search. A due query's window always has one.
+    // The value of the first entry that starts at `from` or later, by binary search. A due query's window always has
+    // one.
     fn first_from(&self, from: u32) -> T {
         let (mut low, mut high) = (self.head, self.tail);
         while low < high {
@@ -45,7 +47,8 @@ impl<T: Copy + Default> Ring<T> {
     }
 }
 
-// A monotonic deque of maxima, and its count of comparisons. For minima the complement !v is stored, which reverses the order.
+// A monotonic deque of maxima, and its count of comparisons. For minima the complement !v is stored, which reverses the
+// order.
 struct Deque {
     ring: Ring<i32>,
     comparisons: u64,
@@ -259,7 +262,8 @@ impl Out {
     }
 }
 
-// Standard input to its end. Of a line that goes on after a chunk 65 bytes are kept at most: they tell that it is too long.
+// Standard input to its end. Of a line that goes on after a chunk 65 bytes are kept at most: they tell that it is too
+// long.
 fn session() -> io::Result<()> {
     let (mut engine, mut out) = (Engine::new(), Out { bytes: Box::new([0; CHUNK]), at: 0 });
     let mut buffer = vec![0; LONGEST + 1 + CHUNK];

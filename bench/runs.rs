@@ -61,8 +61,9 @@ extern "C" {
     fn getrusage(who: i32, usage: *mut Usage) -> i32;
 }
 
-// Runs the program on standard input, its output dropped; prints its user and system time together in microseconds and its peak resident
-// memory in KiB. The memory is VmHWM, looked up every 5 ms: what getrusage says of it counts in the process that starts the program.
+// Runs the program on standard input, its output dropped; prints its user and system time together in microseconds and
+// its peak resident memory in KiB. The memory is VmHWM, looked up every 5 ms: what getrusage says of it counts in the
+// process that starts the program.
 pub fn measure(program: &str) -> io::Result<()> {
     let mut child = Command::new(program).stdout(Stdio::null()).spawn()?;
     let (path, mut peak) = (format!("/proc/{}/status", child.id()), 0u64);

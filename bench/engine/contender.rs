@@ -1,5 +1,5 @@
-// What every contender does, and the loops that drive it. The loops are compiled for each contender by itself; the call for a reading is
-// inlined in none, as the library's cannot be.
+// What every contender does, and the loops that drive it. The loops are compiled for each contender by itself; the call
+// for a reading is inlined in none, as the library's cannot be.
 use crate::workload::Values;
 use std::hint::black_box;
 
@@ -29,7 +29,8 @@ pub fn put_answer(answers: &mut Answers, at: usize, query: &Query, count: u32, v
 pub trait Contender {
     fn register(&mut self, query: Query);
 
-    // Takes a reading, writes the answers of the queries that are due in order of registration, and returns how many there are.
+    // Takes a reading, writes the answers of the queries that are due in order of registration, and returns how many
+    // there are.
     fn reading(&mut self, value: i32, answers: &mut Answers) -> usize;
 
     // Readings, closed partials, comparisons for maxima and for minima, where the contender has partials.

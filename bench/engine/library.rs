@@ -1,4 +1,5 @@
-// The proved engine through the static library: bindings/c/pchelodar.h has the calls. The slices are lent anew at each call.
+// The proved engine through the static library: bindings/c/pchelodar.h has the calls. The slices are lent anew at each
+// call.
 use crate::contender::{Answers, Contender, Query};
 
 #[path = "../../bindings/rust/pchelodar.rs"]

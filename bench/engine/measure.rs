@@ -71,7 +71,8 @@ impl Runner {
     }
 }
 
-// Each contender on its first readings. Their answers have to be equal, and so do the totals of those that count partials.
+// Each contender on its first readings. Their answers have to be equal, and so do the totals of those that count
+// partials.
 fn field(configuration: Configuration) -> Result<Vec<Runner>, String> {
     let mut runners = Vec::new();
     let (mut checksums, mut totals) = (Vec::new(), Vec::new());
@@ -132,7 +133,8 @@ impl Contender for Nothing {
     fn reading(&mut self, value: i32, _: &mut Answers) -> usize { std::hint::black_box(value) as usize & 1 }
 }
 
-// Nanoseconds a reading of the loop around the contenders: random values are made and a call is done. They are in every time.
+// Nanoseconds a reading of the loop around the contenders: random values are made and a call is done. They are in every
+// time.
 pub fn empty_loop() -> f64 {
     let readings = 10_000_000;
     let times = (0..5).map(|_| {

@@ -1,5 +1,5 @@
-// Each query on its own, as one writes it for a single window: a running sum over a ring, a monotonic deque, a count. Each reading goes to
-// each query.
+// Each query on its own, as one writes it for a single window: a running sum over a ring, a monotonic deque, a count.
+// Each reading goes to each query.
 use crate::contender::{put_answer, Answers, Contender, Query, COUNT, MAXIMUM, SUM};
 use std::collections::VecDeque;
 
@@ -30,7 +30,8 @@ struct Registered {
     until_due: u32,
 }
 
-// The reading `index` enters the deque: first what has left the window is evicted at the front, and what it surpasses at the back.
+// The reading `index` enters the deque: first what has left the window is evicted at the front, and what it surpasses
+// at the back.
 fn enter(deque: &mut Deque, index: u32, value: i32, range: u32) {
     if deque.front().is_some_and(|(first, _)| first + range <= index) { deque.pop_front(); }
     while deque.back().is_some_and(|(_, last)| *last <= value) { deque.pop_back(); }

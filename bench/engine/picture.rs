@@ -27,7 +27,8 @@ fn style(name: Name) -> Style {
     Style { name: name.text(), colour, width, dash, marker }
 }
 
-// A series for each contender: `time` gives the nanoseconds at a place of the horizontal axis. The library is drawn last, above the others.
+// A series for each contender: `time` gives the nanoseconds at a place of the horizontal axis. The library is drawn
+// last, above the others.
 fn series(ticks: &[f64], time: impl Fn(Name, f64) -> Option<f64>) -> Vec<Series> {
     let series = |name| Series { style: style(name), points: ticks.iter().filter_map(|x| Some((*x, time(name, *x)?))).collect() };
     Name::ALL.into_iter().rev().map(series).filter(|s| !s.points.is_empty()).collect()

@@ -1,4 +1,5 @@
-// The last 4,096 readings in a ring, and each due window evaluated anew: loops over slices that the compiler vectorises.
+// The last 4,096 readings in a ring, and each due window evaluated anew: loops over slices that the compiler
+// vectorises.
 use crate::contender::{put_answer, Answers, Contender, Query, COUNT, MAXIMUM, SUM};
 
 const CAPACITY: usize = 4096;

@@ -27,7 +27,8 @@ impl<T: Copy + Default> Ring<T> {
         while self.head < self.tail && self.at(self.head).0 < horizon { self.head += 1 }
     }
 
-    // The value of the first entry that starts at `from` or later, by binary search. A due query's window always has one.
+    // The value of the first entry that starts at `from` or later, by binary search. A due query's window always has
+    // one.
     pub fn first_from(&self, from: u32) -> T {
         let (mut low, mut high) = (self.head, self.tail);
         while low < high {

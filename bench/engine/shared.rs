@@ -1,10 +1,12 @@
-// Document 01's algorithm in plain Rust without checks: partial aggregates shared by all queries, closed at edges; running sums and two
-// monotonic deques in rings, eviction at the horizon, binary search by start. With REMAINDERS it takes the remainders for every query at
-// every reading, as the proved engine does; otherwise it remembers where the next edge is.
+// Document 01's algorithm in plain Rust without checks: partial aggregates shared by all queries, closed at edges;
+// running sums and two monotonic deques in rings, eviction at the horizon, binary search by start. With REMAINDERS it
+// takes the remainders for every query at every reading, as the proved engine does; otherwise it remembers where the
+// next edge is.
 use crate::contender::{put_answer, Answers, Contender, Query, COUNT, MAXIMUM, SUM};
 use crate::ring::Ring;
 
-// A monotonic deque of maxima and its count of comparisons. For minima the complements !v are stored, which reverses the order.
+// A monotonic deque of maxima and its count of comparisons. For minima the complements !v are stored, which reverses
+// the order.
 struct Deque {
     ring: Ring<i32>,
     comparisons: u64,

@@ -19,7 +19,8 @@ pub fn print(measured: &[Measured]) {
     flatness(measured);
 }
 
-// One line: in how many configurations, of so many queries or more, the ratio is at most this; and the spread of the ratio over them.
+// One line: in how many configurations, of so many queries or more, the ratio is at most this; and the spread of the
+// ratio over them.
 fn at_most(measured: &[Measured], goal: &str, to: Name, queries: usize, most: f64) {
     let of_enough = measured.iter().filter(|m| m.configuration.queries >= queries);
     let ratios: Vec<f64> = of_enough.filter_map(|m| m.ratio(Name::Library, to)).map(|[median, ..]| median).collect();

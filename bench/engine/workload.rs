@@ -4,7 +4,8 @@ use std::fmt;
 
 const STAGGER: u32 = 5; // readings between two registrations
 
-// A stream is a function of the number of readings before, so that it needs no memory and every contender sees the same one.
+// A stream is a function of the number of readings before, so that it needs no memory and every contender sees the same
+// one.
 #[derive(Clone, Copy, PartialEq, Debug)]
 pub enum Values {
     Random,
@@ -54,7 +55,8 @@ impl fmt::Display for Configuration {
 }
 
 impl Configuration {
-    // Registers the queries, a few readings apart, feeds readings until `to` were taken, and returns the checksum of all answers.
+    // Registers the queries, a few readings apart, feeds readings until `to` were taken, and returns the checksum of
+    // all answers.
     pub fn set_up(&self, contender: &mut dyn Driven, to: u32) -> u64 {
         let (mut taken, mut checksum) = (0, 0);
         for i in 0..self.queries as u32 {

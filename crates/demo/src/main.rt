@@ -1,4 +1,5 @@
-// A demonstration of the five calls: it plays the starred cases and the sample session of document 01 and prints what each call returns.
+// A demonstration of the five calls: it plays the starred cases and the sample session of document 01 and prints what
+// each call returns.
 mod printed;
 mod script;
 mod show;

@@ -132,7 +132,8 @@ pub fn withdraw(
     Held { state, queries }
 }
 
-// A reading is taken and printed: the value, the length of the answer table where it is not the usual one, then how many answers there are, and each of them.
+// A reading is taken and printed: the value, the length of the answer table where it is not the usual one, then how
+// many answers there are, and each of them.
 pub fn reading(
     held: Held,
     starts: &mut [Count],

@@ -1,4 +1,5 @@
-// The starred cases of document 01, its sample session, and a reading refused for want of answer places, as lists of calls.
+// The starred cases of document 01, its sample session, and a reading refused for want of answer places, as lists of
+// calls.
 
 // A call of a list, with what it is given.
 pub enum Call {

@@ -1,5 +1,5 @@
--- From the rings to the model, for an engine and for every order: what the rings hold of the model's closed partials, and that closings and
--- windows computed from it are those of the model.
+-- From the rings to the model, for an engine and for every order: what the rings hold of the model's closed partials,
+-- and that closings and windows computed from it are those of the model.
 -- Assumes nothing.
 use mathlib.Core.Path.{_≡_, refl, sym, ap, _∙_}
 use mathlib.Core.Bool.{Bool}
@@ -35,7 +35,8 @@ newest-few n xs l = let none : length xs - n ≡ 0 = omega arith in rw none
 newest-snoc : {A : Type 0} (n : ℕ) (xs : List A) (y : A) → length xs < n → newest n (xs ++ (y ∷ [])) ≡ xs ++ (y ∷ [])
 newest-snoc n xs y l = newest-few n (xs ++ (y ∷ [])) (omega (arith, length-append xs (y ∷ [])))
 
--- room for a push: of partials that are over by a, before n, fewer than 4,096 start at h or later where n is at most 4,096 past h
+-- room for a push: of partials that are over by a, before n, fewer than 4,096 start at h or later where n is at most
+-- 4,096 past h
 pub room : (h : ℕ) (ps : List Partial) (a n : ℕ) → Ordered 0 ps a → a < n → n ≤ h + capacity → length (partialsFrom h ps) < capacity
 room h ps a n o l k = omega (arith, from-few h 0 ps a o)
 

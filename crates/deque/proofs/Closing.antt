@@ -1,5 +1,5 @@
--- The laws of the closing step of a monotonic deque and of its first entry from a place on, as the code goes. They hold of entries of any type with a
--- start: `content` gives the entry at a place of the tables.
+-- The laws of the closing step of a monotonic deque and of its first entry from a place on, as the code goes. They hold
+-- of entries of any type with a start: `content` gives the entry at a place of the tables.
 -- Assumes nothing.
 use Prim.Native.Nat.{ℕ, _+_, _-_, _<_, _≤_, min}
 use mathlib.Core.Path.{_≡_, refl, sym, ap, ap₂, _∙_}

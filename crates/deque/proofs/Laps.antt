@@ -1,4 +1,5 @@
--- The laws of the partials' sums, which the table holds by laps: eviction, the push of an entry, and the sum of a window read off.
+-- The laws of the partials' sums, which the table holds by laps: eviction, the push of an entry, and the sum of a
+-- window read off.
 -- Assumes nothing.
 use Prim.Native.Nat.{ℕ, zero, suc, _+_, _-_, _<_, _≤_}
 use mathlib.Core.Path.{_≡_, refl, sym, ap, ap₂, _∙_, subst}
@@ -57,7 +58,8 @@ shifted a b c = ext _ _ (omega (arith, bal-sub (a +ℤ c) (b +ℤ c), bal-add a 
 same-entry : {a b : ℕ} {x y : ℤ} → a ≡ b → x ≡ y → entryWith a x ≡ entryWith b y
 same-entry e f = ap₂ entryWith e f
 
--- behind the newest, here: at a greater place than it, and so of the lap before. A place that is not does not belong to that lap
+-- behind the newest, here: at a greater place than it, and so of the lap before. A place that is not does not belong to
+-- that lap
 not-behind : (s : Sums) (p : ℕ) → p ≤ newestPlace s → lapBehind s p ≡ pos 0
 not-behind s p l = rw (le-ltb (newestPlace s) p l)
 
@@ -153,7 +155,8 @@ module _ (s : Sums) (r : Ring) (k : ℕ) (within : k ≤ s .ring .len) (same : r
 
 -- ---- the push of an entry
 
--- what a push makes of the laps: within a lap the table gets the lap so far, at place 0 a new lap begins. Only laws use it
+-- what a push makes of the laps: within a lap the table gets the lap so far, at place 0 a new lap begins. Only laws use
+-- it
 pub data LapStep (s s₁ : Sums) (q : ℕ) (v x : ℤ) : Type 0 where
   withinLap : (q ≡ 0 → ⊥) → v ≡ s .lap → s₁ .lap ≡ s .lap +ℤ x → s₁ .previous ≡ s .previous → LapStep s s₁ q v x
   newLap : q ≡ 0 → v ≡ pos 0 → s₁ .lap ≡ x → s₁ .previous ≡ s .lap → LapStep s s₁ q v x
@@ -323,7 +326,8 @@ partials-evicted starts sums s = listed-evicted (s .ring .len) (partialAt starts
 pub partials-rising : (starts : List ℕ) (sums : List ℤ) (s : Sums) → Sorted (partialsOf starts sums s) → NeverFalls (startsOf starts (s .ring))
 partials-rising starts sums s = listed-rising (s .ring .len) (partialAt starts sums s) (λ j. startAt starts (place (s .ring .head) j)) (λ j. refl)
 
--- what the closing step ensures of the tables and the state before and after, for a partial that starts at `start` with the sum x
+-- what the closing step ensures of the tables and the state before and after, for a partial that starts at `start` with
+-- the sum x
 abbrev pub Closes : (starts starts₁ : List ℕ) (sums sums₁ : List ℤ) (s s₁ : Sums) (h start : ℕ) (x : ℤ) → Type 0
 Closes starts starts₁ sums sums₁ s s₁ h start x =
     FitsSums s₁

@@ -1,5 +1,5 @@
--- The laws of dropping from the end of a deque, for every order: what becomes of the last entry, that of a standing list all go that are at
--- most the new one and no other, and what that costs.
+-- The laws of dropping from the end of a deque, for every order: what becomes of the last entry, that of a standing
+-- list all go that are at most the new one and no other, and what that costs.
 -- Assumes nothing.
 use mathlib.Core.Path.{_≡_, refl, sym, _∙_}
 use mathlib.Core.Bool.{Bool, true, false, cond, and-true, and-false}
@@ -63,7 +63,8 @@ module _ {A : Type 0} (below : A → A → Bool) where
         (λ z k. order .trans (z .value) (x .value) (y .value) (order .total (x .value) (z .value) (not-true (atMost below x z) k)) e) xs
         (all-each (exceeds below x) xs h)
 
-    -- of a standing list, dropping from the end takes away all that are at most y: once an entry exceeds y, all before it do
+    -- of a standing list, dropping from the end takes away all that are at most y: once an entry exceeds y, all before
+    -- it do
     pub trimmed-standing : (xs : List (Entry A)) → trimmed below y (standing below xs) ≡ filter (λ (x : Entry A). exceeds below x y) (standing below xs)
     unfolding trimmed
     trimmed-standing [] = refl

@@ -38,8 +38,8 @@ module _ {A : Type 0} (below : A → A → Bool) (y : Entry A) where
   abbrev pub trimComparisons : List (Entry A) → ℕ
   trimComparisons xs = (length xs - length (trimmed xs)) + oneIfAny (trimmed xs)
 
-  -- the closing of y: first those that start before the horizon are evicted (document 01: set aside), then those at the end that are at most y
-  -- are dropped, and y joins the end. A full ring drops its oldest
+  -- the closing of y: first those that start before the horizon are evicted (document 01: set aside), then those at the
+  -- end that are at most y are dropped, and y joins the end. A full ring drops its oldest
   abbrev pub closedWith : ℕ → List (Entry A) → List (Entry A)
   closedWith horizon xs = newest capacity (trimmed (evicted horizon xs) ++ (y ∷ []))
 

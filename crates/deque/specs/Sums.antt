@@ -1,5 +1,6 @@
--- The closed partials with their sums, on tables of starts and of sums. The table holds at each place the sum of the partials at the places
--- before it, since place 0: a lap of the ring. So the sum from an entry to the newest is a difference, and no number grows with the feed.
+-- The closed partials with their sums, on tables of starts and of sums. The table holds at each place the sum of the
+-- partials at the places before it, since place 0: a lap of the ring. So the sum from an entry to the newest is a
+-- difference, and no number grows with the feed.
 -- Assumes nothing.
 use Prim.Native.Nat.{ℕ, suc, _+_, _-_, _*_, _%_, _<_}
 use mathlib.Core.Bool.{cond}
@@ -22,11 +23,13 @@ sumAt sums p = getD sums p (pos 0)
 abbrev pub newestPlace : Sums → ℕ
 newestPlace s = place (s .ring .head) (s .ring .len - 1)
 
--- the sum of the lap before, where place p is greater than that of the newest: what stands there belongs to the lap before
+-- the sum of the lap before, where place p is greater than that of the newest: what stands there belongs to the lap
+-- before
 abbrev pub lapBehind : Sums → ℕ → ℤ
 lapBehind s p = cond (ltb (newestPlace s) p) (s .previous) (pos 0)
 
--- the sum of the entries from the one at place p to the newest: the lap so far, without what came before p, and with the lap before it where p belongs to that
+-- the sum of the entries from the one at place p to the newest: the lap so far, without what came before p, and with
+-- the lap before it where p belongs to that
 abbrev pub sumFromPlace : List ℤ → Sums → ℕ → ℤ
 sumFromPlace sums s p = s .lap -ℤ sumAt sums p +ℤ lapBehind s p
 

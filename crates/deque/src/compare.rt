@@ -1,5 +1,5 @@
-// The one comparison of two partials' values (document 01, "The bench reckoner": the engine compares the values of two partials only through one
-// function).
+// The one comparison of two partials' values (document 01, "The bench reckoner": the engine compares the values of two
+// partials only through one function).
 ghost use mathlib.Core.Path.{_≡_};
 ghost use Prim.Native.Nat.{_+_, _<_, _^_};
 ghost use Rattle.deque.specs.Extremes.{orderOf};
@@ -16,7 +16,8 @@ pub(crate) struct Compared {
     pub total: u64,
 }
 
-// Whether the value of an older partial is at most that of a newer one, by the order: for maxima at most, for minima at least.
+// Whether the value of an older partial is at most that of a newer one, by the order: for maxima at most, for minima at
+// least.
 pub(crate) fn compare(extreme: Extreme, older: i32, newer: i32, total: u64) -> Compared
     requires { ⌜ total + 1 < 2 ^ 64 ⌝ }
     ensures { λ r. ⌜ (r .verdict ≡ orderOf extreme older newer) × (r .total ≡ total + 1) ⌝ }

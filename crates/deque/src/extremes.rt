@@ -1,4 +1,5 @@
-// A monotonic deque: the standing partials of one order (document 01, "Where partials are cut"), on a table of starts and one of values.
+// A monotonic deque: the standing partials of one order (document 01, "Where partials are cut"), on a table of starts
+// and one of values.
 use crate::compare::Extreme;
 use crate::compare::compare;
 use crate::ring::Ring;
@@ -81,7 +82,8 @@ impl Deque {
         }
     }
 
-    // The value of the first entry that starts at `from` or later: the extreme of the readings since then. 0 where there is none.
+    // The value of the first entry that starts at `from` or later: the extreme of the readings since then. 0 where
+    // there is none.
     pub fn extreme_from(self, starts: &[Count], values: &[i32], from: Count) -> i32
         requires { ⌜ Fits (self .ring) × (capacity ≤ length (now starts)) × (capacity ≤ length (now values)) ⌝ }
         ensures { λ r. ⌜ (Sorted (entriesOf (now (starts .entry)) (now (values .entry)) (self .ring))

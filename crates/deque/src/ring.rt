@@ -1,4 +1,5 @@
-// A ring over the first 4,096 places of lent tables: where its entries stand, evicting the oldest, and searching by start.
+// A ring over the first 4,096 places of lent tables: where its entries stand, evicting the oldest, and searching by
+// start.
 use window::query::Count;
 ghost use mathlib.Core.Path.{_≡_};
 ghost use mathlib.Core.Bool.{true};
@@ -73,7 +74,8 @@ impl Ring {
         Ring { head, len }
     }
 
-    // With room for one entry more: a full ring drops its oldest. Where the ring holds live partials alone, there is room.
+    // With room for one entry more: a full ring drops its oldest. Where the ring holds live partials alone, there is
+    // room.
     fn with_room(self) -> Ring
         requires { ⌜ Fits self ⌝ }
         ensures fits { λ r. ⌜ Fits r × (r .len < capacity) ⌝ }
@@ -108,7 +110,8 @@ impl Ring {
         Pushed { ring, place }
     }
 
-    // Where the first entry that starts at `from` or later would be if each entry since the oldest held one reading, as with a slide of 1.
+    // Where the first entry that starts at `from` or later would be if each entry since the oldest held one reading, as
+    // with a slide of 1.
     fn guess(self, starts: &[Count], from: Count) -> usize
         requires { ⌜ Fits self × (capacity ≤ length (now starts)) ⌝ }
         ensures { λ r. ⌜ r ≤ self .len ⌝ }
@@ -146,7 +149,8 @@ impl Ring {
         starts[p] < from
     }
 
-    // How many entries come before the first that starts at `from` or later: as guessed, where the two entries there say so, and else by binary search.
+    // How many entries come before the first that starts at `from` or later: as guessed, where the two entries there
+    // say so, and else by binary search.
     pub(crate) fn search(self, starts: &[Count], from: Count) -> usize
         requires { ⌜ Fits self × (capacity ≤ length (now starts)) ⌝ }
         ensures within { λ r. ⌜ r ≤ self .len ⌝ }

@@ -1,5 +1,5 @@
-// The closed partials with their sums, on a table of starts and one of sums. The table of sums holds at each place the sum of the partials before it
-// in its lap, so that the sum of a window is one subtraction.
+// The closed partials with their sums, on a table of starts and one of sums. The table of sums holds at each place the
+// sum of the partials before it in its lap, so that the sum of a window is one subtraction.
 use crate::ring::CAPACITY;
 use crate::ring::Ring;
 use window::query::Count;
@@ -23,7 +23,8 @@ pub const SUM_LIMIT: u64 = 140_737_488_355_328;
 // The greatest size of a lap's sum: 2^59.
 pub const LAP_LIMIT: u64 = 576_460_752_303_423_488;
 
-// The closed partials: their ring, and the sums of two laps of it. A lap is a run of pushes from place 0 to the last one.
+// The closed partials: their ring, and the sums of two laps of it. A lap is a run of pushes from place 0 to the last
+// one.
 pub struct Sums {
     pub ring: Ring,
     // The sum of the partials since place 0.

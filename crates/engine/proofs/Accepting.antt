@@ -29,13 +29,13 @@ use Rattle.engine.specs.declared.partial.Open.the-variants.{Empty}
 use Rattle.engine.specs.declared.calls.Answered.{Answered}
 use Rattle.engine.specs.declared.calls.ReadingReply.{ReadingReply}
 use Rattle.engine.specs.declared.state.State.{State}
-use Rattle.engine.specs.Tables.{Tables, longEnough, enough, zeroed, TablesKept}
+use Rattle.engine.specs.Tables.{Tables, tablesLong, enough, zeroed, TablesKept}
 use Rattle.engine.specs.States.{Intact, Judged, FreshState, withReading, withPartial, openWhileAny}
 use Rattle.engine.specs.Closings.{OpenClosed, ClosedWhere}
 use Rattle.engine.specs.Answers.{places, answeredPlaces, answersIn, answerFrom, InOrder}
 use Rattle.engine.specs.Machine.{Machine, machine, ListIs, StateIs, Represents}
 use Rattle.engine.specs.Outcomes.{readingOutcome}
-use Rattle.engine.specs.Contracts.{Ensures, written, ReadingEnsures, zeroedTables, StartEnsures}
+use Rattle.engine.specs.Contracts.{Ensures, placesAfter, ReadingEnsures, zeroedTables, StartEnsures}
 use Rattle.engine.proofs.Refinement.{read-is}
 use Rattle.engine.proofs.Registration.{registered-is, withdrawn-is, fresh-is}
 use Rattle.engine.proofs.Answering.{in-order, answers-are}
@@ -48,12 +48,12 @@ use Rattle.engine.proofs.Taking.{taken-count}
 
 -- a call other than start that every check passes
 pub record Passes (c : Call) (m : Machine) : Type 0 where
-  pub long : longEnough (m .tables) ≡ true
+  pub long : tablesLong (m .tables) ≡ true
   pub intact : Intact (m .state) (m .queries)
   pub own : verdictOf c (m .state .count) (used (m .queries)) ≡ Passed
 
 -- so it is where the verdict on checks 1, 2 and the call's own passes
-pub all-pass : (c : Call) (m : Machine) (long : Bool) (w : Verdict) → long ≡ longEnough (m .tables)
+pub all-pass : (c : Call) (m : Machine) (long : Bool) (w : Verdict) → long ≡ tablesLong (m .tables)
     → Judged long (m .state) (m .queries) (verdictOf c (m .state .count) (used (m .queries))) w → w ≡ Passed → Passes c m
 all-pass c m long w same j e =
     let p = judged-passed long (m .state) (m .queries) (verdictOf c (m .state .count) (used (m .queries))) w j e in
@@ -231,7 +231,7 @@ zeroed-long nought t =
     (omega (arith, length-append (replicate capacity nought) (drop capacity t), length-replicate capacity nought))
 
 -- so all six are
-tables-zeroed-long : (t : Tables) → longEnough (zeroedTables t) ≡ true
+tables-zeroed-long : (t : Tables) → tablesLong (zeroedTables t) ≡ true
 unfolding enough
 tables-zeroed-long t =
     rw (
@@ -244,7 +244,7 @@ tables-zeroed-long t =
     )
 
 -- an accepted start
-pub accepted-start : (m : Machine) (st : State) (l : Queries) (t′ : Tables) → longEnough (m .tables) ≡ true → FreshState st
+pub accepted-start : (m : Machine) (st : State) (l : Queries) (t′ : Tables) → tablesLong (m .tables) ≡ true → FreshState st
     → l .count ≡ 0 → used l ≡ [] → Tidy l → t′ ≡ zeroedTables (m .tables)
     → StartEnsures m (accepted (0 ∷ []) []) (machine st l t′)
 accepted-start m st l t′ long fresh none empty tidy zeroes =
@@ -254,7 +254,7 @@ accepted-start m st l t′ long fresh none empty tidy zeroes =
       represents = λ k. record {
         invariant = initial-invariant;
         readings = tt;
-        long = ap longEnough zeroes ∙ tables-zeroed-long (m .tables);
+        long = ap tablesLong zeroes ∙ tables-zeroed-long (m .tables);
         queries = record { count = none; used = empty; tidy = tidy };
         state = fresh-is st t′ fresh;
       };

@@ -13,7 +13,8 @@ use Rattle.engine.specs.Contracts.{Ensures}
 use Rattle.engine.specs.Demand3.{Performs, Performed, ended, called, Fresh, Demand3, FromStart, BoardLive, NeverDamaged}
 use Rattle.engine.proofs.Answering.{board-live}
 
--- one call on what represents a state of the model: the outcome is the model's, and what is left represents the model's next state
+-- one call on what represents a state of the model: the outcome is the model's, and what is left represents the model's
+-- next state
 record Follows (s : model.State) (c : Call) (o : Outcome) (m′ : Machine) : Type 0 where
   agrees : o ≡ (step s c) .outcome
   represents : Represents ((step s c) .state) m′

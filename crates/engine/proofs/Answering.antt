@@ -1,5 +1,5 @@
--- From state and tables that are the model's: the rings are in order, the answers of the due queries are the model's, and eviction at the
--- horizon leaves the live partials.
+-- From state and tables that are the model's: the rings are in order, the answers of the due queries are the model's,
+-- and eviction at the horizon leaves the live partials.
 -- Assumes nothing.
 use mathlib.Core.Path.{_≡_, refl, sym, ap, _∙_, subst}
 use mathlib.Core.Bool.{Bool, true, false, cond}
@@ -62,7 +62,8 @@ module _ (s : model.State) (st : State) (t : Tables) where
 
   -- ---- what is live on the board
 
-  -- eviction at the horizon leaves exactly the live closed partials, with starts and sums, and for each order those that stand of them
+  -- eviction at the horizon leaves exactly the live closed partials, with starts and sums, and for each order those
+  -- that stand of them
   pub board-live : Holds s st t → HoldsLive s st t
   board-live b =
       let h : ℕ = horizon (count s) (s .queries) in

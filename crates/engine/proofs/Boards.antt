@@ -12,7 +12,7 @@ use lib.ListN.{length, getD, drop, set, replicate, length-replicate}
 use lib.Seq.{drop-cons, set-at}
 use Rattle.window.proofs.Lists.{and-left, and-right}
 use Rattle.deque.specs.Rings.{capacity}
-use Rattle.engine.specs.Tables.{Tables, tables, enough, longEnough}
+use Rattle.engine.specs.Tables.{Tables, tables, enough, tablesLong}
 
 -- ---- check 1
 
@@ -26,7 +26,7 @@ pub record Long (t : Tables) : Type 0 where
   pub minValues : capacity ≤ length (t .minValues)
 
 -- so it is where check 1 passes
-pub long-each : (t : Tables) → longEnough t ≡ true → Long t
+pub long-each : (t : Tables) → tablesLong t ≡ true → Long t
 unfolding enough
 long-each t h =
     let r₁ = and-right (leb capacity (length (t .starts))) _ h in

@@ -7,7 +7,7 @@ use Prim.Native.Nat.{ℕ}
 use Rattle.engine.specs.declared.partial.Open.{Open}
 use Rattle.engine.specs.declared.partial.Open.the-variants.{Nothing, Empty, Holding}
 use Rattle.engine.specs.declared.state.State.{State}
-use Rattle.engine.specs.Tables.{Tables, longEnough, Kept, TablesKept}
+use Rattle.engine.specs.Tables.{Tables, tablesLong, Kept, TablesKept}
 use Rattle.engine.specs.Closings.{OpenClosed, ClosedWhere}
 
 -- ---- tables that are kept
@@ -45,7 +45,7 @@ tables-then p q =
     }
 
 -- tables that are kept are as long as they were
-pub kept-long : (t t′ : Tables) → TablesKept t t′ → longEnough t ≡ true → longEnough t′ ≡ true
+pub kept-long : (t t′ : Tables) → TablesKept t t′ → tablesLong t ≡ true → tablesLong t′ ≡ true
 kept-long t t′ k e =
     rw (k .starts .asLong, k .sums .asLong, k .maxStarts .asLong, k .maxValues .asLong, k .minStarts .asLong, k .minValues .asLong) e
 
@@ -62,5 +62,5 @@ closed-where-kept true h st t st′ t′ c = open-closed-kept (st .partial) h st
 closed-where-kept false h st t st′ t′ c = subst (TablesKept t) (sym (c .1)) (tables-same t)
 
 -- after a closing the tables are as long as they were
-pub closed-long : (o : Open) (h : ℕ) (st : State) (t : Tables) (st′ : State) (t′ : Tables) → OpenClosed o h st t st′ t′ → longEnough t ≡ true → longEnough t′ ≡ true
+pub closed-long : (o : Open) (h : ℕ) (st : State) (t : Tables) (st′ : State) (t′ : Tables) → OpenClosed o h st t st′ t′ → tablesLong t ≡ true → tablesLong t′ ≡ true
 closed-long o h st t st′ t′ c = kept-long t t′ (open-closed-kept o h st t st′ t′ c)

@@ -73,8 +73,8 @@ answered-more given a t =
 
 -- ---- answers to the first of the due queries
 
--- with k of the due queries answered and `left` to come: the answer table, which held `before`, holds the answers so far, and these are the first k of those
--- from the rings
+-- with k of the due queries answered and `left` to come: the answer table, which held `before`, holds the answers so
+-- far, and these are the first k of those from the rings
 pub record AnsweredTo (st : State) (t : Tables) (due left : List Query) (before now : List ℤ) (k : ℕ) : Type 0 where
   pub given : List Answer
   pub number : length given ≡ k

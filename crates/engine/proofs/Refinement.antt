@@ -1,4 +1,5 @@
--- The engine refines the model: what a closing and a reading make of state and tables is what they make of the model's state.
+-- The engine refines the model: what a closing and a reading make of state and tables is what they make of the model's
+-- state.
 -- Assumes nothing.
 use mathlib.Core.Path.{_≡_, refl, sym, ap, _∙_, subst}
 use mathlib.Core.Bool.{Bool, true, false, cond}
@@ -18,7 +19,7 @@ use Rattle.window.specs.Queries.{Limits, edge, horizon}
 use Rattle.window.specs.Partials.{Partial, spanning, Entry, between, entry, entries, partialsFrom}
 use Rattle.window.specs.Standing.{standing, evicted}
 use Rattle.window.specs.Model as model
-use Rattle.window.specs.Model.{count, closingComparisons, closeAt, closeWhere, holdsReading, appended, closeAtEdge, afterReading}
+use Rattle.window.specs.Model.{count, closingComparisons, closeAt, closeWhere, holdsReading, readingTaken, closeAtEdge, afterReading}
 use Rattle.window.specs.Invariant.{Ordered, Shape, Invariant}
 use Rattle.window.proofs.Orders.{leZ-order, geZ-order, greater-assoc, aggregate-append}
 use Rattle.window.proofs.Queries.{horizon-far, horizon-later}
@@ -152,70 +153,70 @@ between-snoc rs v a l =
 
 module _ (s : model.State) (v : ℤ) where
   -- n grows by one
-  pub appended-count : count (appended s v) ≡ count s + 1
-  unfolding appended
-  appended-count = length-append (s .readings) (v ∷ [])
+  pub taken-count : count (readingTaken s v) ≡ count s + 1
+  unfolding readingTaken
+  taken-count = length-append (s .readings) (v ∷ [])
 
   -- of an open partial that holds readings, the aggregate with the new one
   aggregate-more : (op : ℤ → ℤ → ℤ) → ((x y z : ℤ) → op (op x y) z ≡ op x (op y z)) → (a : ℕ) → a < count s
-      → op (aggregate op (pos 0) (between (s .readings) a (count s))) v ≡ aggregate op (pos 0) (between ((appended s v) .readings) a (count (appended s v)))
-  unfolding appended
+      → op (aggregate op (pos 0) (between (s .readings) a (count s))) v ≡ aggregate op (pos 0) (between ((readingTaken s v) .readings) a (count (readingTaken s v)))
+  unfolding readingTaken
   aggregate-more op assoc a l =
       let xs : List ℤ = between (s .readings) a (count s) in
       let some-read : 0 < length xs = rw (length-slice a (count s) (s .readings) (le-refl (count s))) (omega arith) in
       sym (ap (aggregate op (pos 0)) (between-snoc (s .readings) v a (omega arith)) ∙ aggregate-append op (pos 0) assoc xs (v ∷ []) some-read (omega arith))
 
   -- the reading joins what is open
-  open-appended : (o : Open) → OpenIs o s → OpenIs (openWith (count s) v o) (appended s v)
-  unfolding appended
-  open-appended Nothing e = e
-  open-appended Empty e =
+  open-taken : (o : Open) → OpenIs o s → OpenIs (openWith (count s) v o) (readingTaken s v)
+  unfolding readingTaken
+  open-taken Nothing e = e
+  open-taken Empty e =
       let alone : v ∷ [] ≡ between (s .readings ++ (v ∷ [])) (count s) (length (s .readings ++ (v ∷ []))) =
       sym (between-snoc (s .readings) v (count s) (le-refl (count s)) ∙ ap (λ (xs : List ℤ). xs ++ (v ∷ [])) (slice-empty (count s) (s .readings))) in
-      record { start = e; holds = omega (arith, appended-count); sum = ap sum alone; maximum = ap maximum alone; minimum = ap minimum alone }
-  open-appended (Holding a) h =
+      record { start = e; holds = omega (arith, taken-count); sum = ap sum alone; maximum = ap maximum alone; minimum = ap minimum alone }
+  open-taken (Holding a) h =
       record {
         start = h .start;
-        holds = omega (arith, appended-count, h .holds);
+        holds = omega (arith, taken-count, h .holds);
         sum = ap (λ (x : ℤ). x +ℤ v) (h .sum) ∙ aggregate-more _+ℤ_ +ℤ-assoc (a .start) (h .holds);
         maximum = ap (λ (x : ℤ). greater leZ x v) (h .maximum) ∙ aggregate-more (greater leZ) (greater-assoc leZ leZ-order) (a .start) (h .holds);
         minimum = ap (λ (x : ℤ). greater geZ x v) (h .minimum) ∙ aggregate-more (greater geZ) (greater-assoc geZ geZ-order) (a .start) (h .holds);
       }
 
   -- a deque is not touched: what it holds stands with one reading more
-  stands-appended : (below : ℤ → ℤ → Bool) (h : ℕ) (held : List Partial) (starts : List ℕ) (values : List ℤ) (d : Deque) → Retained h (s .closed) held (count s)
+  stands-taken : (below : ℤ → ℤ → Bool) (h : ℕ) (held : List Partial) (starts : List ℕ) (values : List ℤ) (d : Deque) → Retained h (s .closed) held (count s)
       → StandsOn below (s .readings) held starts values d → StandsOn below (s .readings ++ (v ∷ [])) held starts values d
-  stands-appended below h held starts values d r k =
+  stands-taken below h held starts values d r k =
       record {
         fits = k .fits;
         entries = k .entries ∙ ap (standing below) (sym (retained-stable (extreme below) (s .readings) (v ∷ []) h (s .closed) held (count s) (le-refl (count s)) r));
       }
 
   -- the state with the reading is the model's
-  pub appended-is : (st : State) (t : Tables) → StateIs s st t → StateIs (appended s v) (withReading v st) t
-  unfolding appended
-  appended-is st t i =
+  pub taken-is : (st : State) (t : Tables) → StateIs s st t → StateIs (readingTaken s v) (withReading v st) t
+  unfolding readingTaken
+  taken-is st t i =
       let h : ℕ = horizon (count s) (s .queries) in
       let h′ : ℕ = horizon (length (s .readings ++ (v ∷ []))) (s .queries) in
       let b : Holds s st t = i .board in
-      let further : h ≤ h′ = rw appended-count (horizon-later (count s) (s .queries)) in
+      let further : h ≤ h′ = rw taken-count (horizon-later (count s) (s .queries)) in
       record {
-        count = ap (λ (k : ℕ). k + 1) (i .count) ∙ sym appended-count;
+        count = ap (λ (k : ℕ). k + 1) (i .count) ∙ sym taken-count;
         closed = i .closed;
         maxComparisons = i .maxComparisons;
         minComparisons = i .minComparisons;
-        partial = subst (λ (k : ℕ). OpenIs (openWith k v (st .partial)) (appended s v)) (sym (i .count)) (open-appended (st .partial) (i .partial));
+        partial = subst (λ (k : ℕ). OpenIs (openWith k v (st .partial)) (readingTaken s v)) (sym (i .count)) (open-taken (st .partial) (i .partial));
         board =
             record {
               held = b .held;
               retained =
                   retained-rises h h′ (s .closed) (b .held) (length (s .readings ++ (v ∷ []))) further
-                  (retained-later h (s .closed) (b .held) (count s) (length (s .readings ++ (v ∷ []))) (omega (arith, appended-count)) (b .retained));
+                  (retained-later h (s .closed) (b .held) (count s) (length (s .readings ++ (v ∷ []))) (omega (arith, taken-count)) (b .retained));
               fits = b .fits;
               sums = b .sums ∙ sym (retained-stable sum (s .readings) (v ∷ []) h (s .closed) (b .held) (count s) (le-refl (count s)) (b .retained));
               bounds = b .bounds;
-              maxima = stands-appended leZ h (b .held) (t .maxStarts) (t .maxValues) (st .maxima) (b .retained) (b .maxima);
-              minima = stands-appended geZ h (b .held) (t .minStarts) (t .minValues) (st .minima) (b .retained) (b .minima);
+              maxima = stands-taken leZ h (b .held) (t .maxStarts) (t .maxValues) (st .maxima) (b .retained) (b .maxima);
+              minima = stands-taken geZ h (b .held) (t .minStarts) (t .minValues) (st .minima) (b .retained) (b .minima);
             };
       }
 
@@ -241,18 +242,18 @@ close-not (some a) s = refl
 pub read-is : (s : model.State) (v : ℤ) (st : State) (t : Tables) (st′ : State) (t′ : Tables) → Invariant s → StateIs s st t
     → ClosedWhere (any (edge (count s + 1)) (s .queries)) (horizon (count s + 1) (s .queries)) (withReading v st) t st′ t′
     → StateIs (afterReading s v) st′ t′
-unfolding afterReading closeAtEdge appended ClosedWhere
+unfolding afterReading closeAtEdge readingTaken ClosedWhere
 read-is s v st t st′ t′ i r c =
-    subst (λ (n : ℕ). StateIs (closeWhere (any (edge n) (s .queries)) (s .openStart) (appended s v)) st′ t′) (sym (appended-count s v))
+    subst (λ (n : ℕ). StateIs (closeWhere (any (edge n) (s .queries)) (s .openStart) (readingTaken s v)) st′ t′) (sym (taken-count s v))
     (go (any (edge (count s + 1)) (s .queries)) c)
   where
-    later : StateIs (appended s v) (withReading v st) t
-    later = appended-is s v st t r
+    later : StateIs (readingTaken s v) (withReading v st) t
+    later = taken-is s v st t r
 
-    go : (b : Bool) → ClosedWhere b (horizon (count s + 1) (s .queries)) (withReading v st) t st′ t′ → StateIs (closeWhere b (s .openStart) (appended s v)) st′ t′
+    go : (b : Bool) → ClosedWhere b (horizon (count s + 1) (s .queries)) (withReading v st) t st′ t′ → StateIs (closeWhere b (s .openStart) (readingTaken s v)) st′ t′
     go true d =
         subst (λ (x : model.State). StateIs x st′ t′)
-        (close-holding (count (appended s v)) (s .openStart) (appended s v) (λ a e. omega (arith, (open-start s i a e) .1, appended-count s v)))
-        (open-closed-is (appended s v) (withReading v st) t st′ t′ later (i .withinLimits .limits) (λ a e. (open-start s i a e) .0)
-        (subst (λ (n : ℕ). OpenClosed ((withReading v st) .partial) (horizon n (s .queries)) (withReading v st) t st′ t′) (sym (appended-count s v)) d))
-    go false d = subst (λ (x : model.State). StateIs x st′ t′) (sym (close-not (s .openStart) (appended s v))) (unchanged-is (appended s v) (withReading v st) t st′ t′ later d)
+        (close-holding (count (readingTaken s v)) (s .openStart) (readingTaken s v) (λ a e. omega (arith, (open-start s i a e) .1, taken-count s v)))
+        (open-closed-is (readingTaken s v) (withReading v st) t st′ t′ later (i .withinLimits .limits) (λ a e. (open-start s i a e) .0)
+        (subst (λ (n : ℕ). OpenClosed ((withReading v st) .partial) (horizon n (s .queries)) (withReading v st) t st′ t′) (sym (taken-count s v)) d))
+    go false d = subst (λ (x : model.State). StateIs x st′ t′) (sym (close-not (s .openStart) (readingTaken s v))) (unchanged-is (readingTaken s v) (withReading v st) t st′ t′ later d)

@@ -20,7 +20,7 @@ use Rattle.engine.specs.declared.calls.Answered.{Answered}
 use Rattle.engine.specs.declared.calls.ReadingReply.{ReadingReply}
 use Rattle.engine.specs.declared.calls.Reply.{Reply}
 use Rattle.engine.specs.declared.state.State.{State}
-use Rattle.engine.specs.Tables.{longEnough}
+use Rattle.engine.specs.Tables.{tablesLong}
 use Rattle.engine.specs.States.{Judged, isShort, isDamaged, isJudged}
 use Rattle.engine.specs.Answers.{places}
 use Rattle.engine.specs.Machine.{Machine, machine, Represents}
@@ -32,10 +32,10 @@ use Rattle.engine.proofs.Keeping.{tables-same}
 
 -- a call other than start that any check refuses
 pub refused-call : (c : Call) (m : Machine) (long : Bool) (w : Verdict) (r : Refusal) → InRows c 1 → InRows c 2
-    → long ≡ longEnough (m .tables) → Judged long (m .state) (m .queries) (verdictOf c (m .state .count) (used (m .queries))) w
+    → long ≡ tablesLong (m .tables) → Judged long (m .state) (m .queries) (verdictOf c (m .state .count) (used (m .queries))) w
     → w ≡ Refused r → Ensures c m (refused (refusalNumber r)) m
 refused-call c m long w r one two same (isShort f) i =
-    let e : longEnough (m .tables) ≡ false = sym same ∙ f in
+    let e : tablesLong (m .tables) ≡ false = sym same ∙ f in
     let n : 1 ≡ refusalNumber r = ap refusalNumber (refused-same _ r i) in
     record {
       short = λ k. ap refused (sym n);
@@ -47,7 +47,7 @@ refused-call c m long w r one two same (isShort f) i =
       kept = tables-same (m .tables);
     }
 refused-call c m long w r one two same (isDamaged l f) i =
-    let e : longEnough (m .tables) ≡ true = sym same ∙ l in
+    let e : tablesLong (m .tables) ≡ true = sym same ∙ l in
     let n : 2 ≡ refusalNumber r = ap refusalNumber (refused-same _ r i) in
     record {
       short = λ k. absurd (true≢false (sym e ∙ k));
@@ -59,7 +59,7 @@ refused-call c m long w r one two same (isDamaged l f) i =
       kept = tables-same (m .tables);
     }
 refused-call c m long w r one two same (isJudged l f) i =
-    let e : longEnough (m .tables) ≡ true = sym same ∙ l in
+    let e : tablesLong (m .tables) ≡ true = sym same ∙ l in
     record {
       short = λ k. absurd (true≢false (sym e ∙ k));
       broken = λ k d. absurd (true≢false (sym d ∙ f .list));
@@ -79,7 +79,7 @@ refusedWith r m = record { verdict = Refused r; state = m .state; queries = m .q
 
 -- a refused registration or withdrawal, by what it handed back
 pub refused-reply : (c : Call) (m : Machine) (long : Bool) (w : Verdict) (r : Refusal) (reply : Reply) → InRows c 1 → InRows c 2
-    → long ≡ longEnough (m .tables) → Judged long (m .state) (m .queries) (verdictOf c (m .state .count) (used (m .queries))) w
+    → long ≡ tablesLong (m .tables) → Judged long (m .state) (m .queries) (verdictOf c (m .state .count) (used (m .queries))) w
     → w ≡ Refused r → reply ≡ refusedWith r m → Ensures c m (verdictOutcome (reply .verdict)) (machine (reply .state) (reply .queries) (m .tables))
 refused-reply c m long w r reply one two same j i is =
     subst (λ (x : Reply). Ensures c m (verdictOutcome (x .verdict)) (machine (x .state) (x .queries) (m .tables))) (sym is)
@@ -87,7 +87,7 @@ refused-reply c m long w r reply one two same j i is =
 
 -- a reading that any check refuses writes no place
 pub refused-reading : (v : ℤ) (before : List ℤ) (m : Machine) (long : Bool) (w : Verdict) (r : Refusal)
-    → long ≡ longEnough (m .tables) → Judged long (m .state) (m .queries) (firstRefusal (readingChecks (m .state .count) (used (m .queries)) (length before))) w
+    → long ≡ tablesLong (m .tables) → Judged long (m .state) (m .queries) (firstRefusal (readingChecks (m .state .count) (used (m .queries)) (length before))) w
     → w ≡ Refused r → (reply : ReadingReply) → reply ≡ record { outcome = Answered.Refused r; state = m .state }
     → ReadingEnsures v before before m (readingOutcome (reply .outcome) before) (machine (reply .state) (m .queries) (m .tables))
 refused-reading v before m long w r same j i reply is =
@@ -95,7 +95,7 @@ refused-reading v before m long w r same j i reply is =
     (record { ensures = refused-call (reading v (length before)) m long w r refl refl same j i; places = refl; uncut = λ e. refl })
 
 -- a start that check 1 refuses
-pub refused-start : (m : Machine) (reply : Reply) → longEnough (m .tables) ≡ false → reply ≡ refusedWith TableTooShort m
+pub refused-start : (m : Machine) (reply : Reply) → tablesLong (m .tables) ≡ false → reply ≡ refusedWith TableTooShort m
     → StartEnsures m (verdictOutcome (reply .verdict)) (machine (reply .state) (reply .queries) (m .tables))
 refused-start m reply e is =
     subst (λ (x : Reply). StartEnsures m (verdictOutcome (x .verdict)) (machine (x .state) (x .queries) (m .tables))) (sym is)

@@ -1,4 +1,5 @@
--- The engine refines the model: what a registration, a withdrawal and a start make of state and tables is what they make of the model's state.
+-- The engine refines the model: what a registration, a withdrawal and a start make of state and tables is what they
+-- make of the model's state.
 -- Assumes nothing.
 use mathlib.Core.Path.{_≡_, refl, sym, subst}
 use mathlib.Core.Bool.{Bool, not, cond}

@@ -1,5 +1,5 @@
--- What check 2 gives: a state that passes it is ready for a closing, also with one reading more; and state and queries that are the model's pass
--- it.
+-- What check 2 gives: a state that passes it is ready for a closing, also with one reading more; and state and queries
+-- that are the model's pass it.
 -- Assumes nothing.
 use mathlib.Core.Path.{_≡_, refl, sym, ap, _∙_, subst}
 use mathlib.Core.Bool.{false}
@@ -61,7 +61,8 @@ module _ (st : State) (ok : Sound st) where
   holding-fits : (a : Aggregate) → st .partial ≡ Holding a → FitsAggregate (st .count) (st .closed) a
   holding-fits a e = subst (FitsOpen (st .count) (st .closed)) e (ok .partial)
 
-  -- it is ready for a closing with this open, at any count, where a partial that holds readings is small and one more can be counted
+  -- it is ready for a closing with this open, at any count, where a partial that holds readings is small and one more
+  -- can be counted
   ready-with : (n : ℕ) (o : Open) → st .count ≤ countLimit → ((a : Aggregate) → o ≡ Holding a → Small sumLimit (a .sum) × (st .closed < countLimit))
       → Ready (record { count = n; closed = st .closed; partial = o; sums = st .sums; maxima = st .maxima; minima = st .minima })
   ready-with n o l p =

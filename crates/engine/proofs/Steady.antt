@@ -6,13 +6,13 @@ use mathlib.Core.Bool.{false}
 use mathlib.Core.List.{List}
 use lib.IntN.{ℤ}
 use Rattle.window.specs.Calls.{Call, Outcome, refused}
-use Rattle.engine.specs.Tables.{longEnough}
+use Rattle.engine.specs.Tables.{tablesLong}
 use Rattle.engine.specs.Machine.{Machine}
 use Rattle.engine.specs.Contracts.{Promise, StartEnsures, Ensures, ReadingEnsures}
 
 -- check 1, and that a refused call changes nothing
 pub record Steady (promise : Promise) : Type 0 where
-  pub short : (m m′ : Machine) (o : Outcome) → promise m o m′ → longEnough (m .tables) ≡ false → o ≡ refused 1
+  pub short : (m m′ : Machine) (o : Outcome) → promise m o m′ → tablesLong (m .tables) ≡ false → o ≡ refused 1
   pub unchanged : (m m′ : Machine) (o : Outcome) (k : ℕ) → promise m o m′ → o ≡ refused k → m′ ≡ m
 
 -- a start is such

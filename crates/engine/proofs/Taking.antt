@@ -1,4 +1,5 @@
--- What an accepted reading passes on from step to step: the state with the reading, what is left of it after the closing, and the answers.
+-- What an accepted reading passes on from step to step: the state with the reading, what is left of it after the
+-- closing, and the answers.
 -- Assumes nothing.
 use mathlib.Core.Path.{_≡_, refl, sym, ap, subst}
 use mathlib.Core.List.{List}

@@ -51,14 +51,16 @@ answersIn (suc k) t =
 
 -- ---- the values of windows, from the rings
 
--- the starts in each ring never fall, and the table of sums is within its bounds; so it is where state and tables came from a start
+-- the starts in each ring never fall, and the table of sums is within its bounds; so it is where state and tables came
+-- from a start
 pub record InOrder (st : State) (t : Tables) : Type 0 where
   pub sums : Sorted (partialsOf (t .starts) (t .sums) (st .sums))
   pub bounds : InBounds (t .sums) (st .sums)
   pub maxima : Sorted (entriesOf (t .maxStarts) (t .maxValues) (st .maxima .ring))
   pub minima : Sorted (entriesOf (t .minStarts) (t .minValues) (st .minima .ring))
 
--- the value of the window of q: the sum of the partials from its start on, the count of its readings, or the first that stands for maxima or minima from there on
+-- the value of the window of q: the sum of the partials from its start on, the count of its readings, or the first that
+-- stands for maxima or minima from there on
 abbrev pub valueFrom : State → Tables → Query → ℤ
 valueFrom st t q =
     cond (eqb (q .kind) sumKind) (sum (map valueOf (evicted (windowStart (st .count) q) (partialsOf (t .starts) (t .sums) (st .sums)))))

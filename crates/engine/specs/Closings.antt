@@ -50,7 +50,8 @@ pub record Closed (a : Aggregate) (h : ℕ) (st : State) (t : Tables) (st′ : S
   pub minima : DequeClosed geZ (entryWith (a .start) (a .minimum)) h (t .minStarts) (t .minValues) (st .minima) (t′ .minStarts) (t′ .minValues) (st′ .minima)
   pub kept : TablesKept t t′
 
--- state and tables before and after the closing of what is open: an open partial that holds a reading closes, and otherwise nothing changes
+-- state and tables before and after the closing of what is open: an open partial that holds a reading closes, and
+-- otherwise nothing changes
 abbrev pub OpenClosed : Open → ℕ → State → Tables → State → Tables → Type 0
 OpenClosed Nothing h st t st′ t′ = (st′ ≡ st) × (t′ ≡ t)
 OpenClosed Empty h st t st′ t′ = (st′ ≡ st) × (t′ ≡ t)

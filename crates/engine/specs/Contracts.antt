@@ -13,7 +13,7 @@ use Rattle.window.specs.Calls.{Call, start, register, withdraw, reading, totals
 use Rattle.window.specs.Model as model
 use Rattle.window.specs.Model.{initial, step}
 use Rattle.registry.specs.Records.{used, occurs}
-use Rattle.engine.specs.Tables.{Tables, tables, longEnough, zeroed, TablesKept}
+use Rattle.engine.specs.Tables.{Tables, tables, tablesLong, zeroed, TablesKept}
 use Rattle.engine.specs.Answers.{answeredPlaces}
 use Rattle.engine.specs.Machine.{Machine, Represents}
 
@@ -35,7 +35,8 @@ rows totals = 1 ∷ 2 ∷ []
 abbrev pub InRows : Call → ℕ → Type 0
 InRows c k = occurs k (rows c) ≡ true
 
--- number 2 is always given where the query count is above 32, a used record breaks 3 to 6 or has g above n, or two used records share a number
+-- number 2 is always given where the query count is above 32, a used record breaks 3 to 6 or has g above n, or two used
+-- records share a number
 abbrev pub listDamaged : Machine → Bool
 listDamaged m = damaged (m .state .count) (m .queries .count) (used (m .queries))
 
@@ -44,9 +45,10 @@ listDamaged m = damaged (m .state .count) (m .queries .count) (used (m .queries)
 -- the call c on m came to the outcome o and left m′
 pub record Ensures (c : Call) (m : Machine) (o : Outcome) (m′ : Machine) : Type 0 where
   -- checks 1 and 2
-  pub short : longEnough (m .tables) ≡ false → o ≡ refused 1
-  pub broken : longEnough (m .tables) ≡ true → listDamaged m ≡ true → o ≡ refused 2
-  -- whatever state of the model is represented: the outcome is the model's, and what is left represents the model's next state
+  pub short : tablesLong (m .tables) ≡ false → o ≡ refused 1
+  pub broken : tablesLong (m .tables) ≡ true → listDamaged m ≡ true → o ≡ refused 2
+  -- whatever state of the model is represented: the outcome is the model's, and what is left represents the model's
+  -- next state
   pub agrees : (s : model.State) → Represents s m → o ≡ (step s c) .outcome
   pub represents : (s : model.State) → Represents s m → Represents ((step s c) .state) m′
   -- a refused call changes nothing, and its number is in the call's own rows
@@ -58,14 +60,14 @@ pub record Ensures (c : Call) (m : Machine) (o : Outcome) (m′ : Machine) : Typ
 -- ---- reading
 
 -- the answer table after a call: an accepted reading writes the places of its answers and no other, a refused one none
-abbrev pub written : Outcome → List ℤ → List ℤ
-written (accepted ns answers) places = answeredPlaces answers places
-written (refused k) places = places
+abbrev pub placesAfter : Outcome → List ℤ → List ℤ
+placesAfter (accepted ns answers) places = answeredPlaces answers places
+placesAfter (refused k) places = places
 
 -- the reading v with an answer table that held `before` and holds `after`
 pub record ReadingEnsures (v : ℤ) (before after : List ℤ) (m : Machine) (o : Outcome) (m′ : Machine) : Type 0 where
   pub ensures : Ensures (reading v (length before)) m o m′
-  pub places : after ≡ written o before
+  pub places : after ≡ placesAfter o before
   -- where nothing is cut, no table is touched
   pub uncut : any (edge (m .state .count + 1)) (used (m .queries)) ≡ false → m′ .tables ≡ m .tables
 
@@ -85,10 +87,10 @@ zeroedTables t =
 -- a start on the tables of m, whatever they hold, came to o and left m′
 pub record StartEnsures (m : Machine) (o : Outcome) (m′ : Machine) : Type 0 where
   -- check 1 is the only one
-  pub short : longEnough (m .tables) ≡ false → o ≡ refused 1
-  pub accepts : longEnough (m .tables) ≡ true → o ≡ accepted (0 ∷ []) []
+  pub short : tablesLong (m .tables) ≡ false → o ≡ refused 1
+  pub accepts : tablesLong (m .tables) ≡ true → o ≡ accepted (0 ∷ []) []
   -- what is left represents the model's first state, and the tables are zeroed
-  pub represents : longEnough (m .tables) ≡ true → Represents initial m′
-  pub zeroes : longEnough (m .tables) ≡ true → m′ .tables ≡ zeroedTables (m .tables)
+  pub represents : tablesLong (m .tables) ≡ true → Represents initial m′
+  pub zeroes : tablesLong (m .tables) ≡ true → m′ .tables ≡ zeroedTables (m .tables)
   pub unchanged : (k : ℕ) → o ≡ refused k → m′ ≡ m
   pub own : (k : ℕ) → o ≡ refused k → InRows start k

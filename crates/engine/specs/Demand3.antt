@@ -1,5 +1,5 @@
--- Demand 3: for every list of calls the engine and the reference model, both fresh, accept and refuse the same calls, return the same numbers and answers, and end alike.
--- `proofs/Agreement.antt` proves it.
+-- Demand 3: for every list of calls the engine and the reference model, both fresh, accept and refuse the same calls,
+-- return the same numbers and answers, and end alike. `proofs/Agreement.antt` proves it.
 -- Assumes nothing.
 use Prim.Native.Nat.{ℕ, _*_, _-_, _≤_}
 use mathlib.Core.Path.{_≡_}
@@ -10,7 +10,7 @@ use lib.ListN.{length}
 use Rattle.window.specs.Calls.{Call, start, register, withdraw, reading, totals, Outcome, refused}
 use Rattle.window.specs.Model.{count, initial, totalsOf, Ran, run, reached}
 use Rattle.registry.specs.Records.{used, Tidy}
-use Rattle.engine.specs.Tables.{longEnough}
+use Rattle.engine.specs.Tables.{tablesLong}
 use Rattle.engine.specs.declared.calls.Answered.{Answered}
 use Rattle.engine.specs.Machine.{Machine, HoldsLive, Represents}
 use Rattle.engine.specs.Outcomes.{readingOutcome}
@@ -18,7 +18,8 @@ use Rattle.engine.specs.Contracts.{Ensures, ReadingEnsures, StartEnsures
 
 -- ---- calls on a machine, and on whatever else a caller holds (`M`)
 
--- a reading is given an answer table of so many places, with any content; its answers are read from the places as it leaves them. `promised` says what it promises
+-- a reading is given an answer table of so many places, with any content; its answers are read from the places as it
+-- leaves them. `promised` says what it promises
 pub record Reads {M : Type 0} (promised : ℤ → List ℤ → List ℤ → M → Outcome → M → Type 0) (v : ℤ) (places : ℕ) (m : M) (o : Outcome) (m′ : M) : Type 0 where
   pub before : List ℤ
   pub after : List ℤ
@@ -49,7 +50,7 @@ Performs totals m o m′ = Ensures totals m o m′
 pub record Fresh (m : Machine) : Type 0 where
   pub before : Machine
   pub outcome : Outcome
-  pub long : longEnough (before .tables) ≡ true
+  pub long : tablesLong (before .tables) ≡ true
   pub started : StartEnsures before outcome m
 
 -- a run of the engine that came to the outcomes os and left m, against the model's run r of the same calls

@@ -28,7 +28,7 @@ use Rattle.engine.specs.declared.partial.Aggregate.{Aggregate}
 use Rattle.engine.specs.declared.partial.Open.{Open}
 use Rattle.engine.specs.declared.partial.Open.the-variants.{Nothing, Empty, Holding}
 use Rattle.engine.specs.declared.state.State.{State}
-use Rattle.engine.specs.Tables.{Tables, longEnough}
+use Rattle.engine.specs.Tables.{Tables, tablesLong}
 
 -- state, query list and tables
 pub record Machine : Type 0 where
@@ -67,8 +67,9 @@ pub record StandsOn (below : ℤ → ℤ → Bool) (readings : List ℤ) (ps : L
   pub fits : Fits (d .ring)
   pub entries : entriesOf starts values (d .ring) ≡ standing below (entries (extreme below) readings ps)
 
--- the tables hold, by the rings of the state, the live closed partials with starts and sums, and for maxima and for minima those that stand of them, with starts
--- and values. Beside the live ones they may hold some that are no longer (`Retained`): what is not live is set aside at closings alone
+-- the tables hold, by the rings of the state, the live closed partials with starts and sums, and for maxima and for
+-- minima those that stand of them, with starts and values. Beside the live ones they may hold some that are no longer
+-- (`Retained`): what is not live is set aside at closings alone
 pub record Holds (s : model.State) (st : State) (t : Tables) : Type 0 where
   pub held : List Partial
   pub retained : Retained (horizon (count s) (s .queries)) (s .closed) held (count s)
@@ -78,8 +79,9 @@ pub record Holds (s : model.State) (st : State) (t : Tables) : Type 0 where
   pub maxima : StandsOn leZ (s .readings) held (t .maxStarts) (t .maxValues) (st .maxima)
   pub minima : StandsOn geZ (s .readings) held (t .minStarts) (t .minValues) (st .minima)
 
--- the same in document 01's words ("Conditions of acceptance"). With what is not live evicted: the sums are the live closed partials with starts and sums, and
--- maxima and minima those of them that stand, with starts and values. It follows from `Holds` (`board-live`)
+-- the same in document 01's words ("Conditions of acceptance"). With what is not live evicted: the sums are the live
+-- closed partials with starts and sums, and maxima and minima those of them that stand, with starts and values. It
+-- follows from `Holds` (`board-live`)
 pub record HoldsLive (s : model.State) (st : State) (t : Tables) : Type 0 where
   pub sums : evicted (horizon (count s) (s .queries)) (partialsOf (t .starts) (t .sums) (st .sums)) ≡ entries sum (s .readings) (livePartials s)
   pub maxima : evicted (horizon (count s) (s .queries)) (entriesOf (t .maxStarts) (t .maxValues) (st .maxima .ring)) ≡ standing leZ (entries maximum (s .readings) (livePartials s))
@@ -104,10 +106,11 @@ pub record StateIs (s : model.State) (st : State) (t : Tables) : Type 0 where
   pub partial : OpenIs (st .partial) s
   pub board : Holds s st t
 
--- the machine represents the state s of the model, which has the invariant, as all that calls lead to has, and whose readings are signed 32-bit numbers
+-- the machine represents the state s of the model, which has the invariant, as all that calls lead to has, and whose
+-- readings are signed 32-bit numbers
 pub record Represents (s : model.State) (m : Machine) : Type 0 where
   pub invariant : Invariant s
   pub readings : Each IsReading (s .readings)
-  pub long : longEnough (m .tables) ≡ true
+  pub long : tablesLong (m .tables) ≡ true
   pub queries : ListIs s (m .queries)
   pub state : StateIs s (m .state) (m .tables)

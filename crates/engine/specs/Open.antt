@@ -37,8 +37,8 @@ readingSize = 2147483648
 abbrev pub sizeLimit : ℕ
 sizeLimit = lengthLimit * readingSize
 
--- with n readings taken and P partials closed: it starts no earlier than what is closed ends, holds a reading, holds fewer than 4,096, and its sum is no
--- greater than theirs can be
+-- with n readings taken and P partials closed: it starts no earlier than what is closed ends, holds a reading, holds
+-- fewer than 4,096, and its sum is no greater than theirs can be
 pub record FitsAggregate (n closed : ℕ) (a : Aggregate) : Type 0 where
   pub after : closed ≤ a .start
   pub holds : a .start < n

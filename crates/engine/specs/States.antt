@@ -41,7 +41,8 @@ pub record Intact (st : State) (l : Queries) : Type 0 where
   pub list : damaged (st .count) (l .count) (used l) ≡ false
   pub state : Sound st
 
--- what checks 1 and 2 and then the call's own come to, as a verdict: `long` is check 1 on the tables, and `own` what the call's own come to
+-- what checks 1 and 2 and then the call's own come to, as a verdict: `long` is check 1 on the tables, and `own` what
+-- the call's own come to
 pub data Judged (long : Bool) (st : State) (l : Queries) (own : Verdict) : Verdict → Type 0 where
   isShort : long ≡ false → Judged long st l own (Refused TableTooShort)
   isDamaged : long ≡ true → (Intact st l → ⊥) → Judged long st l own (Refused Damaged)

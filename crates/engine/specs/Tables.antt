@@ -30,8 +30,8 @@ enough a b c d e f =
     leb capacity a && (leb capacity b && (leb capacity c && (leb capacity d && (leb capacity e && leb capacity f))))
 
 -- the same of tables
-abbrev pub longEnough : Tables → Bool
-longEnough t =
+abbrev pub tablesLong : Tables → Bool
+tablesLong t =
     enough (length (t .starts)) (length (t .sums)) (length (t .maxStarts)) (length (t .maxValues)) (length (t .minStarts)) (length (t .minValues))
 
 -- a table with its first 4,096 places 0

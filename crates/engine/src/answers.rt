@@ -16,7 +16,7 @@ ghost use Rattle.window.specs.Calls.{Answer};
 ghost use Rattle.deque.specs.Rings.{Fits};
 ghost use Rattle.deque.specs.Sums.{FitsSums};
 ghost use Rattle.registry.specs.Records.{recordLimit, used};
-ghost use Rattle.engine.specs.Tables.{tables, longEnough};
+ghost use Rattle.engine.specs.Tables.{tables, tablesLong};
 ghost use Rattle.engine.specs.Answers.{answerWith, putAt, answeredPlaces, valueFrom, answerFrom, InOrder};
 
 // One answer is written: query number, kind, count of readings in the window, value.
@@ -43,7 +43,7 @@ impl State {
         min_values: &[i32],
     ) -> i64
         requires { ⌜ FitsSums (self .sums) × Fits (self .maxima .ring) × Fits (self .minima .ring) × (q .origin ≤ self .count)
-            × (longEnough (tables (now starts) (now sums) (now «max_starts») (now «max_values») (now «min_starts») (now «min_values»)) ≡ true) ⌝ }
+            × (tablesLong (tables (now starts) (now sums) (now «max_starts») (now «max_values») (now «min_starts») (now «min_values»)) ≡ true) ⌝ }
         ensures { λ r. ⌜ (InOrder self (tables (now (starts .entry)) (now (sums .entry)) (now («max_starts» .entry)) (now («max_values» .entry)) (now («min_starts» .entry)) (now («min_values» .entry)))
             → r ≡ valueFrom self (tables (now (starts .entry)) (now (sums .entry)) (now («max_starts» .entry)) (now («max_values» .entry)) (now («min_starts» .entry)) (now («min_values» .entry))) q) ⌝ }
     {
@@ -64,7 +64,8 @@ impl State {
         minima.extreme_from(min_starts, min_values, from) as i64
     }
 
-    // The queries due at n are answered in registration order, four places each, from the first place on. Returned is how many they are.
+    // The queries due at n are answered in registration order, four places each, from the first place on. Returned is
+    // how many they are.
     pub(crate) fn answer_due(
         self,
         queries: Queries,
@@ -79,7 +80,7 @@ impl State {
         requires { ⌜ FitsSums (self .sums) × Fits (self .maxima .ring) × Fits (self .minima .ring)
             × (queries .count ≤ recordLimit) × Each Limits (used queries) × Each (λ (q : Query). q .origin ≤ self .count) (used queries)
             × (answerPlaces * length (dueAt (self .count) (used queries)) ≤ length (now answers))
-            × (longEnough (tables (now starts) (now sums) (now «max_starts») (now «max_values») (now «min_starts») (now «min_values»)) ≡ true) ⌝ }
+            × (tablesLong (tables (now starts) (now sums) (now «max_starts») (now «max_values») (now «min_starts») (now «min_values»)) ≡ true) ⌝ }
         ensures count { λ r. ⌜ r ≡ length (dueAt (self .count) (used queries)) ⌝ }
         ensures places { λ r. ⌜ ((given : List Answer) × (length given ≡ r) × (now (answers .exit) ≡ answeredPlaces given (now (answers .entry)))
             × (InOrder self (tables (now (starts .entry)) (now (sums .entry)) (now («max_starts» .entry)) (now («max_values» .entry)) (now («min_starts» .entry)) (now («min_values» .entry)))

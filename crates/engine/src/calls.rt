@@ -24,7 +24,8 @@ ghost use Rattle.engine.specs.Machine.{machine};
 ghost use Rattle.engine.specs.Outcomes.{verdictOutcome, readingOutcome, totalsOutcome};
 ghost use Rattle.engine.specs.Contracts.{StartEnsures, Ensures, ReadingEnsures};
 
-// What a start, a registration or a withdrawal comes to, with state and query list handed back: equal where it is refused.
+// What a start, a registration or a withdrawal comes to, with state and query list handed back: equal where it is
+// refused.
 pub struct Reply {
     pub verdict: Verdict,
     pub state: State,
@@ -258,7 +259,8 @@ pub fn totals(
     )
 }
 
-// Reading: it joins the readings, and that is all where no query has an edge. At an edge what is open closes, and the due queries are answered.
+// Reading: it joins the readings, and that is all where no query has an edge. At an edge what is open closes, and the
+// due queries are answered.
 pub fn reading(
     state: State,
     queries: Queries,

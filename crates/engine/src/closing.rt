@@ -6,7 +6,7 @@ use deque::compare::Extreme;
 use window::query::Count;
 ghost use mathlib.Core.Path.{_≡_};
 ghost use mathlib.Core.Bool.{true};
-ghost use Rattle.engine.specs.Tables.{tables, longEnough};
+ghost use Rattle.engine.specs.Tables.{tables, tablesLong};
 ghost use Rattle.engine.specs.Closings.{Ready, Closed, OpenClosed};
 
 impl State {
@@ -23,7 +23,7 @@ impl State {
         min_values: &mut [i32],
     ) -> State
         requires { ⌜ Ready self × (self .partial ≡ Open.Holding a)
-            × (longEnough (tables (now starts) (now sums) (now «max_starts») (now «max_values») (now «min_starts») (now «min_values»)) ≡ true) ⌝ }
+            × (tablesLong (tables (now starts) (now sums) (now «max_starts») (now «max_values») (now «min_starts») (now «min_values»)) ≡ true) ⌝ }
         ensures { λ r. ⌜ Closed a horizon
             self (tables (now (starts .entry)) (now (sums .entry)) (now («max_starts» .entry)) (now («max_values» .entry)) (now («min_starts» .entry)) (now («min_values» .entry)))
             r (tables (now (starts .exit)) (now (sums .exit)) (now («max_starts» .exit)) (now («max_values» .exit)) (now («min_starts» .exit)) (now («min_values» .exit))) ⌝ }
@@ -70,7 +70,7 @@ impl State {
         min_values: &mut [i32],
     ) -> State
         requires { ⌜ Ready self
-            × (longEnough (tables (now starts) (now sums) (now «max_starts») (now «max_values») (now «min_starts») (now «min_values»)) ≡ true) ⌝ }
+            × (tablesLong (tables (now starts) (now sums) (now «max_starts») (now «max_values») (now «min_starts») (now «min_values»)) ≡ true) ⌝ }
         ensures { λ r. ⌜ OpenClosed (self .partial) horizon
             self (tables (now (starts .entry)) (now (sums .entry)) (now («max_starts» .entry)) (now («max_values» .entry)) (now («min_starts» .entry)) (now («min_values» .entry)))
             r (tables (now (starts .exit)) (now (sums .exit)) (now («max_starts» .exit)) (now («max_values» .exit)) (now («min_starts» .exit)) (now («min_values» .exit))) ⌝ }

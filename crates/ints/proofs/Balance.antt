@@ -1,6 +1,6 @@
--- Linear arithmetic of signed numbers by `omega`, which reads natural numbers alone. A signed number z is up z - dn z, the difference of its positive
--- and its negative part. Each operation has a balance, an equation between natural numbers that goes into omega's list; `ext` and the laws of order and
--- range go between the two.
+-- Linear arithmetic of signed numbers by `omega`, which reads natural numbers alone. A signed number z is up z - dn z,
+-- the difference of its positive and its negative part. Each operation has a balance, an equation between natural
+-- numbers that goes into omega's list; `ext` and the laws of order and range go between the two.
 -- Assumes nothing.
 use Prim.Native.Nat.{ℕ, zero, suc, _+_, _-_, _≤_, _<_}
 use mathlib.Core.Path.{_≡_, refl, sym, ap}

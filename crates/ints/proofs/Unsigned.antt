@@ -1,4 +1,5 @@
--- A signed number without its sign, as the machine finds it. For a number below 0 it negates the next one, since the negation of the least number does not fit.
+-- A signed number without its sign, as the machine finds it. For a number below 0 it negates the next one, since the
+-- negation of the least number does not fit.
 -- Assumes nothing.
 use Prim.Native.Nat.{suc, _-_, _≤_}
 use mathlib.Core.Path.{_≡_, refl, sym, ap, _∙_}

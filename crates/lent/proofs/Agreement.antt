@@ -11,7 +11,7 @@ use Rattle.engine.specs.Demand3 as below
 use Rattle.engine.specs.Demand3.{Performed}
 use Rattle.engine.proofs.Agreement as engine
 use Rattle.engine.proofs.Carrying.{carried-run}
-use Rattle.lent.specs.Lent.{Lent, listLong, machineOf}
+use Rattle.lent.specs.Lent.{Lent, listLong, lentMachine}
 use Rattle.engine.specs.Contracts.{Promise}
 use Rattle.lent.specs.Contracts.{OnLent}
 use Rattle.lent.specs.Demand3.{Performs, Fresh, Demand3, FromStart, BoardLive, NeverDamaged}
@@ -21,7 +21,7 @@ still-long : {promise : Promise} {m m′ : Lent} {o : Outcome} → OnLent promis
 still-long e l = ap (leb recordLimit) (e .kept .asLong) ∙ l
 
 -- a call on it is one of the engine's on its first 32 records
-performs : (c : Call) (m : Lent) (o : Outcome) (m′ : Lent) → listLong m ≡ true → Performs c m o m′ → below.Performs c (machineOf m) o (machineOf m′) × (listLong m′ ≡ true)
+performs : (c : Call) (m : Lent) (o : Outcome) (m′ : Lent) → listLong m ≡ true → Performs c m o m′ → below.Performs c (lentMachine m) o (lentMachine m′) × (listLong m′ ≡ true)
 performs start m o m′ l e = (e .promised l, still-long e l)
 performs (register number kind range slide) m o m′ l e = (e .promised l, still-long e l)
 performs (withdraw number) m o m′ l e = (e .promised l, still-long e l)
@@ -33,29 +33,29 @@ performs totals m o m′ l e = (e .promised l, still-long e l)
 
 -- so is a list of them from a start on
 from-below : (fresh : Lent) → Fresh fresh → (calls : List Call) (outcomes : List Outcome) (m : Lent) → Performed Performs fresh calls outcomes m
-    → below.Fresh (machineOf fresh) × Performed below.Performs (machineOf fresh) calls outcomes (machineOf m) × (listLong m ≡ true)
+    → below.Fresh (lentMachine fresh) × Performed below.Performs (lentMachine fresh) calls outcomes (lentMachine m) × (listLong m ≡ true)
 from-below fresh f =
-    carried-run machineOf (λ (m : Lent). listLong m ≡ true) Performs performs (f .before) fresh (f .outcome) (and-left (listLong (f .before)) _ (f .long)) (and-right (listLong (f .before)) _ (f .long)) (f .started)
+    carried-run lentMachine (λ (m : Lent). listLong m ≡ true) Performs performs (f .before) fresh (f .outcome) (and-left (listLong (f .before)) _ (f .long)) (and-right (listLong (f .before)) _ (f .long)) (f .started)
 
 -- demand 3
 pub demand-3 : Demand3
 demand-3 fresh f calls outcomes m p =
     let b = from-below fresh f calls outcomes m p in
-    let a = engine.demand-3 (machineOf fresh) (b .0) calls outcomes (machineOf m) (b .1) in
-    record { agrees = a; totalled = λ o m′ e. a .totalled o (machineOf m′) (e .promised (b .2)) }
+    let a = engine.demand-3 (lentMachine fresh) (b .0) calls outcomes (lentMachine m) (b .1) in
+    record { agrees = a; totalled = λ o m′ e. a .totalled o (lentMachine m′) (e .promised (b .2)) }
 
 -- what came from a start represents the model's state
 pub from-start : FromStart
 from-start fresh f calls outcomes m p =
-    let b = from-below fresh f calls outcomes m p in engine.from-start (machineOf fresh) (b .0) calls outcomes (machineOf m) (b .1)
+    let b = from-below fresh f calls outcomes m p in engine.from-start (lentMachine fresh) (b .0) calls outcomes (lentMachine m) (b .1)
 
 -- so its tables hold what is live, and what stands of it
 pub from-start-live : BoardLive
 from-start-live fresh f calls outcomes m p =
-    let b = from-below fresh f calls outcomes m p in engine.from-start-live (machineOf fresh) (b .0) calls outcomes (machineOf m) (b .1)
+    let b = from-below fresh f calls outcomes m p in engine.from-start-live (lentMachine fresh) (b .0) calls outcomes (lentMachine m) (b .1)
 
 -- what came from a start is never given 1 or 2
 pub never-damaged : NeverDamaged
 never-damaged fresh f calls outcomes m p c o m′ e =
     let b = from-below fresh f calls outcomes m p in
-    engine.never-damaged (machineOf fresh) (b .0) calls outcomes (machineOf m) (b .1) c o (machineOf m′) (performs c m o m′ (b .2) e .0)
+    engine.never-damaged (lentMachine fresh) (b .0) calls outcomes (lentMachine m) (b .1) c o (lentMachine m′) (performs c m o m′ (b .2) e .0)

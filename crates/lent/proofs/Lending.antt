@@ -19,7 +19,7 @@ use Rattle.engine.specs.Machine.{Machine}
 use Rattle.engine.specs.Contracts.{Promise}
 use Rattle.engine.proofs.Steady.{Steady}
 use Rattle.lent.specs.declared.held.Engine.{Engine}
-use Rattle.lent.specs.Lent.{lent, longEnough, machineWith}
+use Rattle.lent.specs.Lent.{lent, lentLong, machineWith}
 use Rattle.lent.specs.Contracts.{ListKept, OnLent}
 use Rattle.lent.specs.Copied.{recordsWritten, Copied, tooShort, performed}
 use Rattle.records.proofs.Lists.{first-long, overwritten-length, overwritten-first, overwritten-rest}
@@ -52,7 +52,8 @@ stored list xs n = (
   λ l. subst (λ (k : ℕ). take k (overwritten list xs) ≡ list) n (overwritten-first list xs (omega arith)),
 )
 
--- the lent list after the call: as it was beyond 32, all of it where the call was refused, and else with the call's records
+-- the lent list after the call: as it was beyond 32, all of it where the call was refused, and else with the call's
+-- records
 on-lent : (promise : Promise) → Steady promise → (e e′ : Engine) (xs list list′ zs : List Query) (t t′ : Tables) (o : Outcome)
     → list ≡ firstRecords xs → Copied promise (length xs) e list t o e′ list′ t′
     → ListKept xs zs → ((k : ℕ) → o ≡ refused k → zs ≡ xs) → (recordLimit ≤ length xs → take recordLimit zs ≡ list′)
@@ -65,7 +66,7 @@ on-lent promise steady e e′ xs list list′ zs t t′ o same c kept alone put 
       kept = kept;
     }
   where
-    by-list : (b : Bool) → leb recordLimit (length xs) ≡ b → (b && tables.longEnough t) ≡ false → o ≡ refused 1
+    by-list : (b : Bool) → leb recordLimit (length xs) ≡ b → (b && tables.tablesLong t) ≡ false → o ≡ refused 1
     by-list true l f = steady .short _ _ _ (enough c (leb-true _ _ l)) f
     by-list false l f = too-few c (leb-false _ _ l)
 

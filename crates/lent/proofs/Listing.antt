@@ -1,4 +1,5 @@
--- What accepted calls do to the lent list: a start leaves it 0, and a registration and a withdrawal do what `append` and `withdraw` on it do.
+-- What accepted calls do to the lent list: a start leaves it 0, and a registration and a withdrawal do what `append`
+-- and `withdraw` on it do.
 -- Assumes nothing.
 use Prim.Native.Nat.{ℕ, suc, _+_, _-_, _≤_, _<_, min}
 use native.Mathlib.Omega.{arith}
@@ -27,7 +28,7 @@ use Rattle.engine.specs.Contracts.{Ensures, StartEnsures}
 use Rattle.engine.proofs.Stepping.{verdictOf, acceptedStep, step-judged}
 use Rattle.engine.proofs.Accepting.{joining}
 use Rattle.lent.specs.declared.held.Engine.{Engine}
-use Rattle.lent.specs.Lent.{Lent, listLong, longEnough, listOf, machineOf}
+use Rattle.lent.specs.Lent.{Lent, listLong, lentLong, listOf, lentMachine}
 use Rattle.lent.specs.Contracts.{OnLent}
 
 -- ---- plain lists
@@ -78,7 +79,7 @@ records-are : (s : model.State) (e : Engine) (list : List Query) → ListIs s (l
 records-are s e list i = i .tidy ∙ ap₂ (λ (qs : List Query) (n : ℕ). qs ++ replicate (recordLimit - n) unused) (i .used) (i .count)
 
 -- so an accepted start leaves the first 32 records 0
-pub start-zeroes : (m : Lent) (o : Outcome) (m′ : Lent) → OnLent StartEnsures m o m′ → longEnough m ≡ true → take recordLimit (m′ .records) ≡ replicate recordLimit unused
+pub start-zeroes : (m : Lent) (o : Outcome) (m′ : Lent) → OnLent StartEnsures m o m′ → lentLong m ≡ true → take recordLimit (m′ .records) ≡ replicate recordLimit unused
 start-zeroes m o m′ e l =
     records-are initial (m′ .engine) (take recordLimit (m′ .records)) ((e .promised (and-left _ _ l) .represents (and-right (listLong m) _ l)) .queries)
 
@@ -90,9 +91,10 @@ accepted-passed s c ns given e = go (verdictOf c (count s) (s .queries)) (e ∙ 
     go Passed k = refl
     go (Refused r) k = accepted-refused ns given (refusalNumber r) k
 
--- and what it left in the lent list are the queries of the accepted step, unused records, and what was there beyond the first 32
+-- and what it left in the lent list are the queries of the accepted step, unused records, and what was there beyond the
+-- first 32
 left-in-list : (c : Call) (s : model.State) (m : Lent) (m′ : Lent) (ns : List ℕ) (given : List Answer)
-    → OnLent (Ensures c) m (accepted ns given) m′ → listLong m ≡ true → Represents s (machineOf m) → verdictOf c (count s) (s .queries) ≡ Passed
+    → OnLent (Ensures c) m (accepted ns given) m′ → listLong m ≡ true → Represents s (lentMachine m) → verdictOf c (count s) (s .queries) ≡ Passed
     → m′ .records ≡ filledUp ((acceptedStep s c) .state .queries) ++ drop recordLimit (m .records)
 left-in-list c s m m′ ns given e l rep p =
     sym (take-append-drop recordLimit (m′ .records))
@@ -103,7 +105,7 @@ left-in-list c s m m′ ns given e l rep p =
 
 -- an accepted registration appends its record to the lent list
 pub register-appends : (number kind range slide : ℕ) (s : model.State) (m : Lent) (m′ : Lent) (ns : List ℕ) (given : List Answer)
-    → OnLent (Ensures (register number kind range slide)) m (accepted ns given) m′ → listLong m ≡ true → Represents s (machineOf m)
+    → OnLent (Ensures (register number kind range slide)) m (accepted ns given) m′ → listLong m ≡ true → Represents s (lentMachine m)
     → m′ .records ≡ appended (m .engine .registered) (joining number kind range slide (m .engine .state .count)) (m .records)
 register-appends number kind range slide s m m′ ns given e l rep =
     left-in-list c s m m′ ns given e l rep passed
@@ -122,7 +124,7 @@ register-appends number kind range slide s m m′ ns given e l rep =
 
 -- an accepted withdrawal withdraws its record from it
 pub withdraw-withdraws : (number : ℕ) (s : model.State) (m : Lent) (m′ : Lent) (ns : List ℕ) (given : List Answer)
-    → OnLent (Ensures (withdraw number)) m (accepted ns given) m′ → listLong m ≡ true → Represents s (machineOf m)
+    → OnLent (Ensures (withdraw number)) m (accepted ns given) m′ → listLong m ≡ true → Represents s (lentMachine m)
     → m′ .records ≡ withdrawn number (m .engine .registered) (m .records)
 unfolding withdrawChecks afterWithdraw
 withdraw-withdraws number s m m′ ns given e l rep =

@@ -1,7 +1,8 @@
 -- The call of `put_back` inside the walk of a function that was lent the records as a `&κ mut [Query]`: one step.
---     calls-put-back   the slice is given up to `put_back`. What is left is what says its last records: `overwritten`. The result is what the call on the copy replies
--- In front of the context stand the token of κ and what the slice owns; each operand is read with one entry less in front.
--- Assumes `Given`, and that the table of calls is monotone under a frame.
+--     calls-put-back   the slice is given up to `put_back`. What is left is what says its last records: `overwritten`.
+--     The result is what the call on the copy replies
+-- In front of the context stand the token of κ and what the slice owns; each operand is read with one entry less in
+-- front. Assumes `Given`, and that the table of calls is monotone under a frame.
 use mathlib.Core.Path.{_≡_, sym, ap, _∙_, subst}
 use Prim.Native.Nat.{ℕ}
 use mathlib.Core.List.{List, [], _∷_}

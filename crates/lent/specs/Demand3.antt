@@ -10,7 +10,7 @@ use Rattle.engine.specs.Machine.{HoldsLive, Represents}
 use Rattle.engine.specs.Contracts.{Ensures, StartEnsures}
 use Rattle.engine.specs.Demand3 as below
 use Rattle.engine.specs.Demand3.{Reads, Performed}
-use Rattle.lent.specs.Lent.{Lent, longEnough, machineOf}
+use Rattle.lent.specs.Lent.{Lent, lentLong, lentMachine}
 use Rattle.lent.specs.Contracts.{OnLent, ReadingOnLent}
 
 -- the call c on m came to o and left m′: what the contracts of the five calls say of it
@@ -25,13 +25,14 @@ Performs totals m o m′ = OnLent (Ensures totals) m o m′
 pub record Fresh (m : Lent) : Type 0 where
   pub before : Lent
   pub outcome : Outcome
-  pub long : longEnough before ≡ true
+  pub long : lentLong before ≡ true
   pub started : OnLent StartEnsures before outcome m
 
 -- a run that came to the outcomes os and left m, against the model's run r of the same calls
 pub record AgreesWith (r : Ran) (os : List Outcome) (m : Lent) : Type 0 where
-  -- for each call: acceptance or refusal, numbers and answers; after the list: the queries, with all unused ones of the first 32 records 0, and n, P, M, N with their bound
-  pub agrees : below.AgreesWith r os (machineOf m)
+  -- for each call: acceptance or refusal, numbers and answers; after the list: the queries, with all unused ones of the
+  -- first 32 records 0, and n, P, M, N with their bound
+  pub agrees : below.AgreesWith r os (lentMachine m)
   -- n, P, M and N as a totals call would return them
   pub totalled : (o : Outcome) (m′ : Lent) → Performs totals m o m′ → o ≡ (totalsOf (r .state)) .outcome
 
@@ -45,7 +46,7 @@ Demand3 = (fresh : Lent) → Fresh fresh → (calls : List Call) (outcomes : Lis
 -- what came from a start by these calls represents the state that the model comes to by them
 abbrev pub FromStart : Type 0
 FromStart = (fresh : Lent) → Fresh fresh → (calls : List Call) (outcomes : List Outcome) (m : Lent)
-    → Performed Performs fresh calls outcomes m → Represents (reached calls) (machineOf m)
+    → Performed Performs fresh calls outcomes m → Represents (reached calls) (lentMachine m)
 
 -- its tables hold what is live, and what stands of it
 abbrev pub BoardLive : Type 0

@@ -27,8 +27,8 @@ abbrev pub listLong : Lent → Bool
 listLong m = leb recordLimit (length (m .records))
 
 -- check 1, on all seven tables
-abbrev pub longEnough : Lent → Bool
-longEnough m = listLong m && tables.longEnough (m .tables)
+abbrev pub lentLong : Lent → Bool
+lentLong m = listLong m && tables.tablesLong (m .tables)
 
 -- the query list of the layer below: the count, and these records
 abbrev pub listOf : Engine → List Query → Queries
@@ -39,5 +39,5 @@ abbrev pub machineWith : Engine → List Query → Tables → Machine
 machineWith e list t = machine (e .state) (listOf e list) t
 
 -- what the caller holds, as the layer below holds it: its records are the first 32 of the lent list
-abbrev pub machineOf : Lent → Machine
-machineOf m = machineWith (m .engine) (take recordLimit (m .records)) (m .tables)
+abbrev pub lentMachine : Lent → Machine
+lentMachine m = machineWith (m .engine) (take recordLimit (m .records)) (m .tables)

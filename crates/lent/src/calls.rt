@@ -1,5 +1,5 @@
-// The open calls with the query list lent as records (document 01, "The board" and "The calls and where each refuses"). Each takes a copy of the first 32 records, makes the
-// call on it, and puts back what changed.
+// The open calls with the query list lent as records (document 01, "The board" and "The calls and where each refuses").
+// Each takes a copy of the first 32 records, makes the call on it, and puts back what changed.
 use crate::copied;
 use crate::held::Engine;
 use crate::held::OnCopy;

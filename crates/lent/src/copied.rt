@@ -16,7 +16,7 @@ ghost use mathlib.Core.Path.{_≡_};
 ghost use Rattle.window.specs.Calls.{register, withdraw, totals};
 ghost use Rattle.engine.specs.Tables.{tables};
 ghost use Rattle.engine.specs.Outcomes.{verdictOutcome, readingOutcome, totalsOutcome};
-ghost use Rattle.engine.specs.Contracts.{StartEnsures, Ensures, ReadingEnsures, written};
+ghost use Rattle.engine.specs.Contracts.{StartEnsures, Ensures, ReadingEnsures, placesAfter};
 ghost use Rattle.lent.specs.Lent.{listOf};
 ghost use Rattle.lent.specs.Copied.{recordsWritten, Copied, shortOf, apart};
 
@@ -209,7 +209,7 @@ pub(crate) fn reading(
         (tables (now (starts .entry)) (now (sums .entry)) (now («max_starts» .entry)) (now («max_values» .entry)) (now («min_starts» .entry)) (now («min_values» .entry)))
         (readingOutcome (r .outcome) (now (answers .exit))) (r .engine) list
         (tables (now (starts .exit)) (now (sums .exit)) (now («max_starts» .exit)) (now («max_values» .exit)) (now («min_starts» .exit)) (now («min_values» .exit)))
-        × ((now (answers .exit) ≡ written (readingOutcome (r .outcome) (now (answers .exit))) (now (answers .entry))) × (r .engine .registered ≡ engine .registered)) ⌝ }
+        × ((now (answers .exit) ≡ placesAfter (readingOutcome (r .outcome) (now (answers .exit))) (now (answers .entry))) × (r .engine .registered ≡ engine .registered)) ⌝ }
 {
     if places < RECORDS {
         let outcome = Answered::Refused(Refusal::TableTooShort);

@@ -37,14 +37,16 @@ pub struct ReadingReply {
     pub engine: Engine,
 }
 
-// What a call on a copy of the query list comes to: the reply, the list after it, and how many of its records are to be put back.
+// What a call on a copy of the query list comes to: the reply, the list after it, and how many of its records are to be
+// put back.
 pub struct OnCopy {
     pub reply: Reply,
     pub list: [Query; 32],
     pub write: usize,
 }
 
-// The parts, each by a method: the walk of a function that reads a field of so deep a struct goes past the prover's limit of steps.
+// The parts, each by a method: the walk of a function that reads a field of so deep a struct goes past the prover's
+// limit of steps.
 impl OnCopy {
     // What the caller is told.
     pub(crate) fn replied(self) -> Reply

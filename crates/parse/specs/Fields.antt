@@ -42,6 +42,7 @@ rest l = drop (suc (until 9 l)) l
 unfoldable pub others : List ℕ → List (List ℕ)
 others l = cond (eqb (tabs l) 0) [] (parts 9 (rest l))
 
--- where the field that starts at a position stands: up to the next tab or the line's end. One place beyond the line there is none
+-- where the field that starts at a position stands: up to the next tab or the line's end. One place beyond the line
+-- there is none
 unfoldable pub fieldAt : List ℕ → ℕ → Field
 fieldAt l at = cond (ltb (length l) at) End (Text at (at + until 9 (drop at l)))

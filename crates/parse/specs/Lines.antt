@@ -1,4 +1,5 @@
--- What a session line asks, or the refusal that it gets (document 01, "Session lines", and refusals 12 to 15). `Line` is the code's own enumeration.
+-- What a session line asks, or the refusal that it gets (document 01, "Session lines", and refusals 12 to 15). `Line`
+-- is the code's own enumeration.
 -- Assumes nothing.
 use Prim.Native.Nat.{ℕ}
 use mathlib.Core.Bool.{cond}

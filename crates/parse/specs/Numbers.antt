@@ -1,4 +1,5 @@
--- Numbers as a session line writes them (document 01, "Session lines"): digits without a leading zero, or 0. Bytes are natural numbers.
+-- Numbers as a session line writes them (document 01, "Session lines"): digits without a leading zero, or 0. Bytes are
+-- natural numbers.
 -- Assumes nothing.
 use Prim.Native.Nat.{ℕ, _+_, _*_, _-_, _≤_}
 use mathlib.Core.Bool.{Bool, true, false, not, _&&_, cond}

@@ -4,7 +4,8 @@ ghost use Prim.Native.Nat.{_-_, _<_, _≤_, min};
 ghost use lib.IntN.{pos, negℤ};
 ghost use Rattle.parse.specs.Numbers.{digit, digits, written, valueFrom, numberOf, signedOf, positive, negative, NumberBelow};
 
-// What a field is as an unsigned number: no number as written (refusal 14), a number outside its width (15), or a number.
+// What a field is as an unsigned number: no number as written (refusal 14), a number outside its width (15), or a
+// number.
 pub enum Number {
     Malformed,
     Wide,

@@ -1,4 +1,5 @@
-// The session program (document 01, "Session lines"): it reads standard input, calls the session, and writes standard output.
+// The session program (document 01, "Session lines"): it reads standard input, calls the session, and writes standard
+// output.
 use deque::ring::CAPACITY;
 use libc::STDERR_FILENO;
 use libc::STDIN_FILENO;
@@ -9,7 +10,7 @@ ghost use mathlib.Core.Path.{_≡_};
 ghost use mathlib.Core.Bool.{true};
 ghost use Prim.Native.Nat.{_≤_};
 ghost use lib.ListN.{length};
-ghost use Rattle.engine.specs.Tables.{Tables, tables, longEnough};
+ghost use Rattle.engine.specs.Tables.{Tables, tables, tablesLong};
 ghost use Rattle.session.specs.Contracts.{held, finishRoom};
 ghost use Rattle.pchelodar.specs.Contracts.{ChunkFed, ChunkRead, AllRead, Handed, Concluded};
 
@@ -125,7 +126,8 @@ fn read_chunk(
     )
 }
 
-// Standard input to its end. A loop needs a number that falls: so many reads are more than a machine can make in a century.
+// Standard input to its end. A loop needs a number that falls: so many reads are more than a machine can make in a
+// century.
 fn read_all(
     session: Session,
     starts: &mut [Count],
@@ -172,7 +174,8 @@ fn read_all(
     }
 }
 
-// The end of the input: the totals are printed only where the input was read to its end and all before them was written.
+// The end of the input: the totals are printed only where the input was read to its end and all before them was
+// written.
 fn conclude(
     done: Running,
     starts: &mut [Count],
@@ -239,7 +242,7 @@ fn run(
     chunk: &mut [u8],
     out: &mut [u8],
 ) -> Progress
-    requires { ⌜ (longEnough (tables (now starts) (now sums) (now «max_starts») (now «max_values») (now «min_starts») (now «min_values»)) ≡ true) × (finishRoom ≤ length (now out)) ⌝ }
+    requires { ⌜ (tablesLong (tables (now starts) (now sums) (now «max_starts») (now «max_values») (now «min_starts») (now «min_values»)) ≡ true) × (finishRoom ≤ length (now out)) ⌝ }
     ensures { λ r. ⌜ Concluded (tables (now (starts .entry)) (now (sums .entry)) (now («max_starts» .entry)) (now («max_values» .entry)) (now («min_starts» .entry)) (now («min_values» .entry)))
         (tables (now (starts .exit)) (now (sums .exit)) (now («max_starts» .exit)) (now («max_values» .exit)) (now («min_starts» .exit)) (now («min_values» .exit))) (now (out .exit)) r ⌝ }
 {

@@ -26,11 +26,11 @@ use Rattle.engine.specs.Tables as tables
 use Rattle.engine.specs.Tables.{Tables}
 use Rattle.engine.specs.Outcomes as engine
 use Rattle.engine.specs.Machine.{Machine, machine}
-use Rattle.engine.specs.Contracts.{Promise, Ensures, ReadingEnsures, written}
+use Rattle.engine.specs.Contracts.{Promise, Ensures, ReadingEnsures, placesAfter}
 use Rattle.engine.proofs.Steady.{Steady, call-steady, reading-steady}
 use Rattle.pchelodar_c.specs.Written.{stateNumbers, listNumbers, stateOf, registeredIn, listOf}
-use Rattle.pchelodar_c.specs.Held.{Held, held, roomFor, numbersLong, longEnough, machineOf}
-use Rattle.pchelodar_c.specs.Contracts.{callOutcome, readingOutcome, totalsOutcome, KeptBeyond, OnNumbers, ReadingOnNumbers, TotalsOnNumbers, PutBack, nothingBack, allBack, ReadingBack, refusedBack, stateBack}
+use Rattle.pchelodar_c.specs.Slices.{Slices, slices, roomFor, numbersLong, slicesLong, slicesMachine}
+use Rattle.pchelodar_c.specs.Contracts.{codeOutcome, readingCodeOutcome, totalsCodeOutcome, KeptBeyond, OnNumbers, ReadingOnNumbers, TotalsOnNumbers, PutBack, nothingBack, allBack, ReadingBack, refusedBack, stateBack}
 
 -- ---- room for the numbers
 
@@ -75,22 +75,22 @@ counted UnknownLine = omega arith
 counted NotANumber = omega arith
 counted OutsideWidth = omega arith
 
-call-refused : (k : ℕ) → 1 ≤ k → callOutcome k ≡ refused k
+call-refused : (k : ℕ) → 1 ≤ k → codeOutcome k ≡ refused k
 call-refused zero l = absurd (omega arith)
 call-refused (suc k) l = refl
 
-reading-refused : (k given : ℕ) (places : List ℤ) → 1 ≤ k → readingOutcome k given places ≡ refused k
+reading-refused : (k given : ℕ) (places : List ℤ) → 1 ≤ k → readingCodeOutcome k given places ≡ refused k
 reading-refused zero given places l = absurd (omega arith)
 reading-refused (suc k) given places l = refl
 
-totals-refused : (k : ℕ) (four : List ℕ) → 1 ≤ k → totalsOutcome k four ≡ refused k
+totals-refused : (k : ℕ) (four : List ℕ) → 1 ≤ k → totalsCodeOutcome k four ≡ refused k
 totals-refused zero four l = absurd (omega arith)
 totals-refused (suc k) four l = refl
 
 -- ---- there is no room
 
 -- a call is refused before anything is read
-pub no-room : (promise : Promise) (w ns : List ℕ) (t : Tables) → roomFor (length w) (length ns) ≡ false → OnNumbers promise (held w ns t) (refused 1) (held w ns t)
+pub no-room : (promise : Promise) (w ns : List ℕ) (t : Tables) → roomFor (length w) (length ns) ≡ false → OnNumbers promise (slices w ns t) (refused 1) (slices w ns t)
 no-room promise w ns t e =
     record {
       short = λ f. refl;
@@ -102,42 +102,42 @@ no-room promise w ns t e =
 
 -- a reading
 pub no-room-reading : (v : ℤ) (places : List ℤ) (given : ℕ) (w ns : List ℕ) (t : Tables) → roomFor (length w) (length ns) ≡ false
-    → ReadingOnNumbers v places places given given (held w ns t) (refused 1) (held w ns t)
+    → ReadingOnNumbers v places places given given (slices w ns t) (refused 1) (slices w ns t)
 no-room-reading v places given w ns t e =
     record { onNumbers = no-room (ReadingEnsures v places places) w ns t e; places = refl; unanswered = λ k i. refl; alone = refl }
 
 -- totals
-pub no-room-totals : (four w ns : List ℕ) (t : Tables) → roomFor (length w) (length ns) ≡ false → TotalsOnNumbers four four (held w ns t) (refused 1)
+pub no-room-totals : (four w ns : List ℕ) (t : Tables) → roomFor (length w) (length ns) ≡ false → TotalsOnNumbers four four (slices w ns t) (refused 1)
 no-room-totals four w ns t e = record { onNumbers = no-room (Ensures Calls.totals) w ns t e; untold = λ k i. refl }
 
 -- ---- there is room
 
 module _ (promise : Promise) (steady : Steady promise) (w ns : List ℕ) (t t′ : Tables) (room : roomFor (length w) (length ns) ≡ true) where
   -- check 1 on the tables
-  short-too : (o : Outcome) (m′ : Machine) → promise (machineOf (held w ns t)) o m′ → longEnough (held w ns t) ≡ false → o ≡ refused 1
-  short-too o m′ p f = steady .short (machineOf (held w ns t)) m′ o p (sym (ap (λ (b : Bool). b && tables.longEnough t) room) ∙ f)
+  short-too : (o : Outcome) (m′ : Machine) → promise (slicesMachine (slices w ns t)) o m′ → slicesLong (slices w ns t) ≡ false → o ≡ refused 1
+  short-too o m′ p f = steady .short (slicesMachine (slices w ns t)) m′ o p (sym (ap (λ (b : Bool). b && tables.tablesLong t) room) ∙ f)
 
   -- the engine refused, and nothing is put back
-  pub refused-back : (k : ℕ) (m′ : Machine) → promise (machineOf (held w ns t)) (refused k) m′ → m′ .tables ≡ t′ → OnNumbers promise (held w ns t) (refused k) (held w ns t′)
+  pub refused-back : (k : ℕ) (m′ : Machine) → promise (slicesMachine (slices w ns t)) (refused k) m′ → m′ .tables ≡ t′ → OnNumbers promise (slices w ns t) (refused k) (slices w ns t′)
   refused-back k m′ p e =
-      let same : m′ ≡ machineOf (held w ns t) = steady .unchanged (machineOf (held w ns t)) m′ (refused k) k p refl in
+      let same : m′ ≡ slicesMachine (slices w ns t) = steady .unchanged (slicesMachine (slices w ns t)) m′ (refused k) k p refl in
       let left : t′ ≡ t = sym e ∙ ap (λ (m : Machine). m .tables) same in
-      subst (λ (u : Tables). OnNumbers promise (held w ns t) (refused k) (held w ns u)) (sym left)
+      subst (λ (u : Tables). OnNumbers promise (slices w ns t) (refused k) (slices w ns u)) (sym left)
       (record {
         short = short-too (refused k) m′ p;
-        promised = λ f. subst (promise (machineOf (held w ns t)) (refused k)) same p;
+        promised = λ f. subst (promise (slicesMachine (slices w ns t)) (refused k)) same p;
         unchanged = λ j i. refl;
         state = kept-all stateNumbers w;
         queries = kept-all listNumbers ns;
       })
 
   -- the engine accepted, and what is put back is read again as what it came to
-  pub accepted-back : (xs : List ℕ) (answers : List Answer) (m′ : Machine) (w′ ns′ : List ℕ) → promise (machineOf (held w ns t)) (accepted xs answers) m′ → machineOf (held w′ ns′ t′) ≡ m′
-      → KeptBeyond stateNumbers w w′ → KeptBeyond listNumbers ns ns′ → OnNumbers promise (held w ns t) (accepted xs answers) (held w′ ns′ t′)
+  pub accepted-back : (xs : List ℕ) (answers : List Answer) (m′ : Machine) (w′ ns′ : List ℕ) → promise (slicesMachine (slices w ns t)) (accepted xs answers) m′ → slicesMachine (slices w′ ns′ t′) ≡ m′
+      → KeptBeyond stateNumbers w w′ → KeptBeyond listNumbers ns ns′ → OnNumbers promise (slices w ns t) (accepted xs answers) (slices w′ ns′ t′)
   accepted-back xs answers m′ w′ ns′ p e a b =
       record {
         short = short-too (accepted xs answers) m′ p;
-        promised = λ f. subst (promise (machineOf (held w ns t)) (accepted xs answers)) (sym e) p;
+        promised = λ f. subst (promise (slicesMachine (slices w ns t)) (accepted xs answers)) (sym e) p;
         unchanged = λ k i. cc;
         state = a;
         queries = b;
@@ -147,34 +147,34 @@ module _ (promise : Promise) (steady : Steady promise) (w ns : List ℕ) (t t′
 
 -- the machine that the engine was given is what the numbers are read as
 pub given-is : (w ns : List ℕ) (t : Tables) (st : State) (l : Queries) → st ≡ stateOf (take stateNumbers w) → l ≡ listOf (registeredIn (take stateNumbers w)) ns
-    → machine st l t ≡ machineOf (held w ns t)
+    → machine st l t ≡ slicesMachine (slices w ns t)
 given-is w ns t st l e f = ap₂ (λ (s : State) (q : Queries). machine s q t) e f
 
 -- start, register and withdraw
 pub made : (promise : Promise) → Steady promise → (w ns : List ℕ) (t t′ : Tables) (st : State) (l : Queries) (reply : Reply) (r : ℕ) (w′ ns′ : List ℕ) → roomFor (length w) (length ns) ≡ true
     → st ≡ stateOf (take stateNumbers w) → l ≡ listOf (registeredIn (take stateNumbers w)) ns
     → promise (machine st l t) (engine.verdictOutcome (reply .verdict)) (machine (reply .state) (reply .queries) t′) → PutBack reply w ns r w′ ns′
-    → OnNumbers promise (held w ns t) (callOutcome r) (held w′ ns′ t′)
+    → OnNumbers promise (slices w ns t) (codeOutcome r) (slices w′ ns′ t′)
 made promise steady w ns t t′ st l reply r w′ ns′ room e f p (nothingBack refusal v) =
     let k = refusalNumber refusal in
     let m′ = machine (reply .state) (reply .queries) t′ in
-    let q : promise (machineOf (held w ns t)) (refused k) m′ = rw (← given-is w ns t st l e f, ← ap engine.verdictOutcome v) p in
-    subst (λ (o : Outcome). OnNumbers promise (held w ns t) o (held w ns t′)) (sym (call-refused k (counted refusal))) (refused-back promise steady w ns t t′ room k m′ q refl)
+    let q : promise (slicesMachine (slices w ns t)) (refused k) m′ = rw (← given-is w ns t st l e f, ← ap engine.verdictOutcome v) p in
+    subst (λ (o : Outcome). OnNumbers promise (slices w ns t) o (slices w ns t′)) (sym (call-refused k (counted refusal))) (refused-back promise steady w ns t t′ room k m′ q refl)
 made promise steady w ns t t′ st l reply r w′ ns′ room e f p (allBack v s c rs a b) =
     let m′ = machine (reply .state) (reply .queries) t′ in
-    let q : promise (machineOf (held w ns t)) (callOutcome 0) m′ = rw (← given-is w ns t st l e f, ← ap engine.verdictOutcome v) p in
+    let q : promise (slicesMachine (slices w ns t)) (codeOutcome 0) m′ = rw (← given-is w ns t st l e f, ← ap engine.verdictOutcome v) p in
     accepted-back promise steady w ns t t′ room (0 ∷ []) [] m′ w′ ns′ q (rw (s, c, rs) refl) a b
 
 -- a reading
 pub reading-made : (v : ℤ) (before after : List ℤ) (w ns : List ℕ) (t t′ : Tables) (st : State) (l : Queries) (reply : ReadingReply) (registered given r given′ : ℕ) (w′ : List ℕ)
     → roomFor (length w) (length ns) ≡ true → registered ≡ registeredIn (take stateNumbers w) → st ≡ stateOf (take stateNumbers w) → l ≡ listOf registered ns
     → ReadingEnsures v before after (machine st l t) (engine.readingOutcome (reply .outcome) after) (machine (reply .state) l t′) → ReadingBack reply registered w given r w′ given′
-    → ReadingOnNumbers v before after given given′ (held w ns t) (readingOutcome r given′ after) (held w′ ns t′)
+    → ReadingOnNumbers v before after given given′ (slices w ns t) (readingCodeOutcome r given′ after) (slices w′ ns t′)
 reading-made v before after w ns t t′ st l reply registered given r given′ w′ room n e f p (refusedBack refusal u) =
     let k = refusalNumber refusal in
     let m′ = machine (reply .state) l t′ in
-    let q : ReadingEnsures v before after (machineOf (held w ns t)) (refused k) m′ = rw (← given-is w ns t st l e (f ∙ ap (λ (j : ℕ). listOf j ns) n), ← ap (λ o. engine.readingOutcome o after) u) p in
-    subst (λ (o : Outcome). ReadingOnNumbers v before after given given (held w ns t) o (held w ns t′)) (sym (reading-refused k given after (counted refusal)))
+    let q : ReadingEnsures v before after (slicesMachine (slices w ns t)) (refused k) m′ = rw (← given-is w ns t st l e (f ∙ ap (λ (j : ℕ). listOf j ns) n), ← ap (λ o. engine.readingOutcome o after) u) p in
+    subst (λ (o : Outcome). ReadingOnNumbers v before after given given (slices w ns t) o (slices w ns t′)) (sym (reading-refused k given after (counted refusal)))
     (record {
       onNumbers = refused-back (ReadingEnsures v before after) (reading-steady v before after) w ns t t′ room k m′ q refl;
       places = q .places;
@@ -183,7 +183,7 @@ reading-made v before after w ns t t′ st l reply registered given r given′ w
     })
 reading-made v before after w ns t t′ st l reply registered given r given′ w′ room n e f p (stateBack k u s c a) =
     let m′ = machine (reply .state) l t′ in
-    let q : ReadingEnsures v before after (machineOf (held w ns t)) (readingOutcome 0 k after) m′ = rw (← given-is w ns t st l e (f ∙ ap (λ (j : ℕ). listOf j ns) n), ← ap (λ o. engine.readingOutcome o after) u) p in
+    let q : ReadingEnsures v before after (slicesMachine (slices w ns t)) (readingCodeOutcome 0 k after) m′ = rw (← given-is w ns t st l e (f ∙ ap (λ (j : ℕ). listOf j ns) n), ← ap (λ o. engine.readingOutcome o after) u) p in
     record {
       onNumbers = accepted-back (ReadingEnsures v before after) (reading-steady v before after) w ns t t′ room (k ∷ []) (answersIn k after) m′ w′ ns q (rw (s, c, f) refl) a (kept-all listNumbers ns);
       places = q .places;
@@ -195,7 +195,7 @@ reading-made v before after w ns t t′ st l reply registered given r given′ w
 pub reading-made-of : {v₀ v : ℤ} {before after : List ℤ} {w ns : List ℕ} {t t′ : Tables} {st : State} {l : Queries} {reply : ReadingReply} {registered given r given′ : ℕ} {w′ : List ℕ} → v₀ ≡ v
     → roomFor (length w) (length ns) ≡ true → registered ≡ registeredIn (take stateNumbers w) → st ≡ stateOf (take stateNumbers w) → l ≡ listOf registered ns
     → ReadingEnsures v₀ before after (machine st l t) (engine.readingOutcome (reply .outcome) after) (machine (reply .state) l t′) → ReadingBack reply registered w given r w′ given′
-    → ReadingOnNumbers v before after given given′ (held w ns t) (readingOutcome r given′ after) (held w′ ns t′)
+    → ReadingOnNumbers v before after given given′ (slices w ns t) (readingCodeOutcome r given′ after) (slices w′ ns t′)
 reading-made-of {v₀} {v} {before} {after} {w} {ns} {t} {t′} {st} {l} {reply} {registered} {given} {r} {given′} {w′} same room n e f p =
     reading-made v before after w ns t t′ st l reply registered given r given′ w′ room n e f
     (subst (λ (x : ℤ). ReadingEnsures x before after (machine st l t) (engine.readingOutcome (reply .outcome) after) (machine (reply .state) l t′)) same p)
@@ -209,15 +209,15 @@ pub data TotalsBack (before : List ℕ) (reply : TotalsReply) : ℕ → List ℕ
 pub totals-made : (before after w ns : List ℕ) (t : Tables) (st : State) (l : Queries) (reply : TotalsReply) (r : ℕ) → roomFor (length w) (length ns) ≡ true
     → st ≡ stateOf (take stateNumbers w) → l ≡ listOf (registeredIn (take stateNumbers w)) ns
     → Ensures Calls.totals (machine st l t) (engine.totalsOutcome reply) (machine st l t) → TotalsBack before reply r after
-    → TotalsOnNumbers before after (held w ns t) (totalsOutcome r after)
+    → TotalsOnNumbers before after (slices w ns t) (totalsCodeOutcome r after)
 totals-made before after w ns t st l reply r room e f p (untold refusal u i) =
     let k = refusalNumber refusal in
-    let q : Ensures Calls.totals (machineOf (held w ns t)) (refused k) (machineOf (held w ns t)) = rw (← given-is w ns t st l e f, ← ap engine.totalsOutcome u) p in
-    subst (λ (o : Outcome). TotalsOnNumbers before before (held w ns t) o) (sym (ap (λ (j : ℕ). totalsOutcome j before) i ∙ totals-refused k before (counted refusal)))
-    (record { onNumbers = refused-back (Ensures Calls.totals) (call-steady Calls.totals) w ns t t room k (machineOf (held w ns t)) q refl; untold = λ j h. refl })
+    let q : Ensures Calls.totals (slicesMachine (slices w ns t)) (refused k) (slicesMachine (slices w ns t)) = rw (← given-is w ns t st l e f, ← ap engine.totalsOutcome u) p in
+    subst (λ (o : Outcome). TotalsOnNumbers before before (slices w ns t) o) (sym (ap (λ (j : ℕ). totalsCodeOutcome j before) i ∙ totals-refused k before (counted refusal)))
+    (record { onNumbers = refused-back (Ensures Calls.totals) (call-steady Calls.totals) w ns t t room k (slicesMachine (slices w ns t)) q refl; untold = λ j h. refl })
 totals-made before after w ns t st l reply r room e f p (told n c a b u) =
-    let q : Ensures Calls.totals (machineOf (held w ns t)) (accepted (n ∷ c ∷ a ∷ b ∷ []) []) (machineOf (held w ns t)) = rw (← given-is w ns t st l e f, ← ap engine.totalsOutcome u) p in
+    let q : Ensures Calls.totals (slicesMachine (slices w ns t)) (accepted (n ∷ c ∷ a ∷ b ∷ []) []) (slicesMachine (slices w ns t)) = rw (← given-is w ns t st l e f, ← ap engine.totalsOutcome u) p in
     record {
-      onNumbers = accepted-back (Ensures Calls.totals) (call-steady Calls.totals) w ns t t room (n ∷ c ∷ a ∷ b ∷ []) [] (machineOf (held w ns t)) w ns q refl (kept-all stateNumbers w) (kept-all listNumbers ns);
+      onNumbers = accepted-back (Ensures Calls.totals) (call-steady Calls.totals) w ns t t room (n ∷ c ∷ a ∷ b ∷ []) [] (slicesMachine (slices w ns t)) w ns q refl (kept-all stateNumbers w) (kept-all listNumbers ns);
       untold = λ j h. cc;
     }

@@ -1,4 +1,5 @@
--- The laws of the loops that copy: what they have made after i turns. And that a query list that is written is read again.
+-- The laws of the loops that copy: what they have made after i turns. And that a query list that is written is read
+-- again.
 -- Assumes nothing.
 use Prim.Native.Nat.{ℕ, zero, suc, _+_, _-_, _*_, _≤_, _<_}
 use mathlib.Core.Path.{_≡_, refl, sym, ap, ap₂, _∙_, subst}

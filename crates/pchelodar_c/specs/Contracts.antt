@@ -1,4 +1,5 @@
--- What the five calls promise where everything is lent as numbers, for every input: what the engine's calls promise of what the numbers are read as, and that no other place is written.
+-- What the five calls promise where everything is lent as numbers, for every input: what the engine's calls promise of
+-- what the numbers are read as, and that no other place is written.
 -- Assumes nothing.
 use Prim.Native.Nat.{ℕ, zero, suc}
 use mathlib.Core.Path.{_≡_}
@@ -16,26 +17,27 @@ use Rattle.engine.specs.declared.calls.ReadingReply.{ReadingReply}
 use Rattle.engine.specs.declared.calls.Answered.the-variants as answered
 use Rattle.engine.specs.Answers.{answersIn}
 use Rattle.engine.specs.Machine.{Machine}
-use Rattle.engine.specs.Contracts.{Ensures, ReadingEnsures, written}
+use Rattle.engine.specs.Contracts.{Ensures, ReadingEnsures, placesAfter}
 use Rattle.pchelodar_c.specs.Written.{stateNumbers, stateOf, registeredIn, listNumbers, recordsIn}
-use Rattle.pchelodar_c.specs.Held.{Held, numbersLong, longEnough, machineOf}
+use Rattle.pchelodar_c.specs.Slices.{Slices, numbersLong, slicesLong, slicesMachine}
 
 -- ---- document 01's numbers and values for what the calls return: 0 is an acceptance, any other number the refusal's
 
 -- accepted start, register and withdraw calls return 0
-abbrev pub callOutcome : ℕ → Outcome
-callOutcome zero = accepted (0 ∷ []) []
-callOutcome (suc k) = refused (suc k)
+abbrev pub codeOutcome : ℕ → Outcome
+codeOutcome zero = accepted (0 ∷ []) []
+codeOutcome (suc k) = refused (suc k)
 
--- an accepted reading returns the number of its answers at a place of its own, and they are read from the answer places in order
-abbrev pub readingOutcome : ℕ → ℕ → List ℤ → Outcome
-readingOutcome zero given places = accepted (given ∷ []) (answersIn given places)
-readingOutcome (suc k) given places = refused (suc k)
+-- an accepted reading returns the number of its answers at a place of its own, and they are read from the answer places
+-- in order
+abbrev pub readingCodeOutcome : ℕ → ℕ → List ℤ → Outcome
+readingCodeOutcome zero given places = accepted (given ∷ []) (answersIn given places)
+readingCodeOutcome (suc k) given places = refused (suc k)
 
 -- totals returns n, P, M and N at places of their own
-abbrev pub totalsOutcome : ℕ → List ℕ → Outcome
-totalsOutcome zero four = accepted four []
-totalsOutcome (suc k) four = refused (suc k)
+abbrev pub totalsCodeOutcome : ℕ → List ℕ → Outcome
+totalsCodeOutcome zero four = accepted four []
+totalsCodeOutcome (suc k) four = refused (suc k)
 
 -- ---- the promises
 
@@ -49,41 +51,44 @@ pub record KeptBeyond (k : ℕ) (before after : List ℕ) : Type 0 where
   pub beyond : drop k after ≡ drop k before
 
 -- a call on m came to o and left m′
-pub record OnNumbers (promise : Promise) (m : Held) (o : Outcome) (m′ : Held) : Type 0 where
+pub record OnNumbers (promise : Promise) (m : Slices) (o : Outcome) (m′ : Slices) : Type 0 where
   -- check 1, on the state and all seven tables
-  pub short : longEnough m ≡ false → o ≡ refused 1
+  pub short : slicesLong m ≡ false → o ≡ refused 1
   -- with room for the numbers of state and query list: what the engine promises of what they are read as
-  pub promised : numbersLong m ≡ true → promise (machineOf m) o (machineOf m′)
+  pub promised : numbersLong m ≡ true → promise (slicesMachine m) o (slicesMachine m′)
   -- a refused call changes nothing: no number of the state or of the query list, no table
   pub unchanged : (k : ℕ) → o ≡ refused k → m′ ≡ m
   -- nothing beyond the 18 numbers of the state and the 160 of the query list is written
   pub state : KeptBeyond stateNumbers (m .state) (m′ .state)
   pub queries : KeptBeyond listNumbers (m .queries) (m′ .queries)
 
--- the reading v, with an answer table that held `before` and holds `after`, and a place for the number of answers that held `given` and holds `given′`
-pub record ReadingOnNumbers (v : ℤ) (before after : List ℤ) (given given′ : ℕ) (m : Held) (o : Outcome) (m′ : Held) : Type 0 where
+-- the reading v, with an answer table that held `before` and holds `after`, and a place for the number of answers that
+-- held `given` and holds `given′`
+pub record ReadingOnNumbers (v : ℤ) (before after : List ℤ) (given given′ : ℕ) (m : Slices) (o : Outcome) (m′ : Slices) : Type 0 where
   pub onNumbers : OnNumbers (ReadingEnsures v before after) m o m′
-  pub places : after ≡ written o before
+  pub places : after ≡ placesAfter o before
   -- a refused reading leaves the number of answers as it was
   pub unanswered : (k : ℕ) → o ≡ refused k → given′ ≡ given
   -- no query joins or leaves
   pub alone : m′ .queries ≡ m .queries
 
 -- totals, with four places that held `before` and hold `after`
-pub record TotalsOnNumbers (before after : List ℕ) (m : Held) (o : Outcome) : Type 0 where
+pub record TotalsOnNumbers (before after : List ℕ) (m : Slices) (o : Outcome) : Type 0 where
   pub onNumbers : OnNumbers (Ensures totals) m o m
   pub untold : (k : ℕ) → o ≡ refused k → after ≡ before
 
 -- ---- what is put back after a call of the engine
 
--- of a reply to start, register or withdraw, to a state of the numbers w and a query list of the numbers ns: nothing where the call was refused, and else what is read again as the reply
+-- of a reply to start, register or withdraw, to a state of the numbers w and a query list of the numbers ns: nothing
+-- where the call was refused, and else what is read again as the reply
 pub data PutBack (reply : Reply) (w ns : List ℕ) : ℕ → List ℕ → List ℕ → Type 0 where
   nothingBack : (refusal : Refusal) → reply .verdict ≡ Refused refusal → PutBack reply w ns (refusalNumber refusal) w ns
   allBack : {w′ ns′ : List ℕ} → reply .verdict ≡ Passed
       → stateOf (take stateNumbers w′) ≡ reply .state → registeredIn (take stateNumbers w′) ≡ reply .queries .count → recordsIn recordLimit ns′ ≡ reply .queries .records
       → KeptBeyond stateNumbers w w′ → KeptBeyond listNumbers ns ns′ → PutBack reply w ns 0 w′ ns′
 
--- of a reply to a reading, with so many queries registered, to a state of the numbers w and a place for the number of answers
+-- of a reply to a reading, with so many queries registered, to a state of the numbers w and a place for the number of
+-- answers
 pub data ReadingBack (reply : ReadingReply) (registered : ℕ) (w : List ℕ) (given : ℕ) : ℕ → List ℕ → ℕ → Type 0 where
   refusedBack : (refusal : Refusal) → reply .outcome ≡ answered.Refused refusal → ReadingBack reply registered w given (refusalNumber refusal) w given
   stateBack : {w′ : List ℕ} (k : ℕ) → reply .outcome ≡ answered.Answers k

@@ -1,5 +1,5 @@
 pub mod Signed
 pub mod Written
-pub mod Held
+pub mod Slices
 pub mod Contracts
 pub mod Demand3

@@ -1,4 +1,5 @@
-// The five calls by their names in C, on lent slices of numbers alone: no allocation, nothing global. Each returns 0 where it is accepted, and else the number of the refusal.
+// The five calls by their names in C, on lent slices of numbers alone: no allocation, nothing global. Each returns 0
+// where it is accepted, and else the number of the refusal.
 use crate::list::LIST_NUMBERS;
 use crate::list::list_of;
 use crate::list::store_list;
@@ -23,8 +24,8 @@ ghost use Rattle.window.specs.Calls.{register, withdraw};
 ghost use Rattle.engine.specs.Tables.{tables};
 ghost use Rattle.engine.specs.Contracts.{StartEnsures, Ensures};
 ghost use Rattle.pchelodar_c.specs.Written.{stateNumbers, listNumbers};
-ghost use Rattle.pchelodar_c.specs.Held.{held, roomFor};
-ghost use Rattle.pchelodar_c.specs.Contracts.{callOutcome, readingOutcome, totalsOutcome, OnNumbers, ReadingOnNumbers, TotalsOnNumbers, PutBack, ReadingBack};
+ghost use Rattle.pchelodar_c.specs.Slices.{slices, roomFor};
+ghost use Rattle.pchelodar_c.specs.Contracts.{codeOutcome, readingCodeOutcome, totalsCodeOutcome, OnNumbers, ReadingOnNumbers, TotalsOnNumbers, PutBack, ReadingBack};
 
 // Whether there are places for the numbers of a state and of a query list.
 fn room_for(state: usize, queries: usize) -> bool
@@ -72,7 +73,8 @@ fn put_reading_back(
     }
 }
 
-// Start: everything empty. The state and the query list are written, and the first 4,096 places of each table become 0. Refused with 1.
+// Start: everything empty. The state and the query list are written, and the first 4,096 places of each table become 0.
+// Refused with 1.
 #[no_mangle]
 pub extern "C" fn pchelodar_start(
     state: &mut [u64],
@@ -85,9 +87,9 @@ pub extern "C" fn pchelodar_start(
     min_values: &mut [i32],
 ) -> u32
     ensures { λ r. ⌜ OnNumbers StartEnsures
-        (held (now (state .entry)) (now (queries .entry)) (tables (now (starts .entry)) (now (sums .entry)) (now («max_starts» .entry)) (now («max_values» .entry)) (now («min_starts» .entry)) (now («min_values» .entry))))
-        (callOutcome r)
-        (held (now (state .exit)) (now (queries .exit)) (tables (now (starts .exit)) (now (sums .exit)) (now («max_starts» .exit)) (now («max_values» .exit)) (now («min_starts» .exit)) (now («min_values» .exit)))) ⌝ }
+        (slices (now (state .entry)) (now (queries .entry)) (tables (now (starts .entry)) (now (sums .entry)) (now («max_starts» .entry)) (now («max_values» .entry)) (now («min_starts» .entry)) (now («min_values» .entry))))
+        (codeOutcome r)
+        (slices (now (state .exit)) (now (queries .exit)) (tables (now (starts .exit)) (now (sums .exit)) (now («max_starts» .exit)) (now («max_values» .exit)) (now («min_starts» .exit)) (now («min_values» .exit)))) ⌝ }
 {
     if !room_for(state.len(), queries.len()) {
         let refusal = Refusal::TableTooShort;
@@ -124,9 +126,9 @@ pub extern "C" fn pchelodar_register(
     slide: u32,
 ) -> u32
     ensures { λ r. ⌜ OnNumbers (Ensures (register number kind range slide))
-        (held (now (state .entry)) (now (queries .entry)) (tables (now (starts .entry)) (now (sums .entry)) (now («max_starts» .entry)) (now («max_values» .entry)) (now («min_starts» .entry)) (now («min_values» .entry))))
-        (callOutcome r)
-        (held (now (state .exit)) (now (queries .exit)) (tables (now (starts .exit)) (now (sums .exit)) (now («max_starts» .exit)) (now («max_values» .exit)) (now («min_starts» .exit)) (now («min_values» .exit)))) ⌝ }
+        (slices (now (state .entry)) (now (queries .entry)) (tables (now (starts .entry)) (now (sums .entry)) (now («max_starts» .entry)) (now («max_values» .entry)) (now («min_starts» .entry)) (now («min_values» .entry))))
+        (codeOutcome r)
+        (slices (now (state .exit)) (now (queries .exit)) (tables (now (starts .exit)) (now (sums .exit)) (now («max_starts» .exit)) (now («max_values» .exit)) (now («min_starts» .exit)) (now («min_values» .exit)))) ⌝ }
 {
     if !room_for(state.len(), queries.len()) {
         let refusal = Refusal::TableTooShort;
@@ -164,9 +166,9 @@ pub extern "C" fn pchelodar_withdraw(
     number: u32,
 ) -> u32
     ensures { λ r. ⌜ OnNumbers (Ensures (withdraw number))
-        (held (now (state .entry)) (now (queries .entry)) (tables (now (starts .entry)) (now (sums .entry)) (now («max_starts» .entry)) (now («max_values» .entry)) (now («min_starts» .entry)) (now («min_values» .entry))))
-        (callOutcome r)
-        (held (now (state .exit)) (now (queries .exit)) (tables (now (starts .entry)) (now (sums .entry)) (now («max_starts» .entry)) (now («max_values» .entry)) (now («min_starts» .entry)) (now («min_values» .entry)))) ⌝ }
+        (slices (now (state .entry)) (now (queries .entry)) (tables (now (starts .entry)) (now (sums .entry)) (now («max_starts» .entry)) (now («max_values» .entry)) (now («min_starts» .entry)) (now («min_values» .entry))))
+        (codeOutcome r)
+        (slices (now (state .exit)) (now (queries .exit)) (tables (now (starts .entry)) (now (sums .entry)) (now («max_starts» .entry)) (now («max_values» .entry)) (now («min_starts» .entry)) (now («min_values» .entry)))) ⌝ }
 {
     if !room_for(state.len(), queries.len()) {
         let refusal = Refusal::TableTooShort;
@@ -187,7 +189,8 @@ pub extern "C" fn pchelodar_withdraw(
     put_back(state, queries, reply)
 }
 
-// Reading: it joins the readings, and the due queries are answered, four places each, from the first place on. Refused with 1, 2, 10 and 11.
+// Reading: it joins the readings, and the due queries are answered, four places each, from the first place on. Refused
+// with 1, 2, 10 and 11.
 #[no_mangle]
 pub extern "C" fn pchelodar_reading(
     state: &mut [u64],
@@ -203,9 +206,9 @@ pub extern "C" fn pchelodar_reading(
     value: i32,
 ) -> u32
     ensures { λ r. ⌜ ReadingOnNumbers value (now (answers .entry)) (now (answers .exit)) (now (answered .entry)) (now (answered .exit))
-        (held (now (state .entry)) (now (queries .entry)) (tables (now (starts .entry)) (now (sums .entry)) (now («max_starts» .entry)) (now («max_values» .entry)) (now («min_starts» .entry)) (now («min_values» .entry))))
-        (readingOutcome r (now (answered .exit)) (now (answers .exit)))
-        (held (now (state .exit)) (now (queries .entry)) (tables (now (starts .exit)) (now (sums .exit)) (now («max_starts» .exit)) (now («max_values» .exit)) (now («min_starts» .exit)) (now («min_values» .exit)))) ⌝ }
+        (slices (now (state .entry)) (now (queries .entry)) (tables (now (starts .entry)) (now (sums .entry)) (now («max_starts» .entry)) (now («max_values» .entry)) (now («min_starts» .entry)) (now («min_values» .entry))))
+        (readingCodeOutcome r (now (answered .exit)) (now (answers .exit)))
+        (slices (now (state .exit)) (now (queries .entry)) (tables (now (starts .exit)) (now (sums .exit)) (now («max_starts» .exit)) (now («max_values» .exit)) (now («min_starts» .exit)) (now («min_values» .exit)))) ⌝ }
 {
     if !room_for(state.len(), queries.len()) {
         let refusal = Refusal::TableTooShort;
@@ -242,8 +245,8 @@ pub extern "C" fn pchelodar_totals(
     totals: &mut [u64; 4],
 ) -> u32
     ensures { λ r. ⌜ TotalsOnNumbers (now (totals .entry)) (now (totals .exit))
-        (held (now (state .entry)) (now (queries .entry)) (tables (now (starts .entry)) (now (sums .entry)) (now («max_starts» .entry)) (now («max_values» .entry)) (now («min_starts» .entry)) (now («min_values» .entry))))
-        (totalsOutcome r (now (totals .exit))) ⌝ }
+        (slices (now (state .entry)) (now (queries .entry)) (tables (now (starts .entry)) (now (sums .entry)) (now («max_starts» .entry)) (now («max_values» .entry)) (now («min_starts» .entry)) (now («min_values» .entry))))
+        (totalsCodeOutcome r (now (totals .exit))) ⌝ }
 {
     if !room_for(state.len(), queries.len()) {
         let refusal = Refusal::TableTooShort;

@@ -1,4 +1,5 @@
-// The state as 18 numbers, and back. Numbers that no state is written as are read as a state with 33 queries, which check 2 refuses.
+// The state as 18 numbers, and back. Numbers that no state is written as are read as a state with 33 queries, which
+// check 2 refuses.
 use crate::signed::signed;
 use crate::signed::unsigned;
 use deque::extremes::Deque;

@@ -4,7 +4,7 @@ use crate::text::put_field;
 use crate::text::put_signed_field;
 ghost use Prim.Native.Nat.{_+_, _≤_};
 ghost use lib.ListN.{length};
-ghost use Rattle.print.specs.Appended.{Appended};
+ghost use Rattle.print.specs.Put.{Put};
 ghost use Rattle.print.specs.Lines.{answerLine, refusalLine, totalsLine, answerRoom, refusalRoom, totalsRoom};
 
 // What the longest A line and the longest T line take, in bytes.
@@ -23,7 +23,7 @@ pub fn put_answer(
     value: i64,
 ) -> usize
     requires { ⌜ at + answerRoom ≤ length (now out) ⌝ }
-    ensures { λ r. ⌜ (Appended (now (out .entry)) at (answerLine n number kind count value) (now (out .exit)) r) × (r ≤ at + answerRoom) ⌝ }
+    ensures { λ r. ⌜ (Put (now (out .entry)) at (answerLine n number kind count value) (now (out .exit)) r) × (r ≤ at + answerRoom) ⌝ }
 {
     let a = put_byte(out, at, 65);
     let b = put_field(out, a, n);
@@ -37,7 +37,7 @@ pub fn put_answer(
 // E, the line's number, the refusal.
 pub fn put_refusal(out: &mut [u8], at: usize, line: u64, refusal: u64) -> usize
     requires { ⌜ at + refusalRoom ≤ length (now out) ⌝ }
-    ensures { λ r. ⌜ (Appended (now (out .entry)) at (refusalLine line refusal) (now (out .exit)) r) × (r ≤ at + refusalRoom) ⌝ }
+    ensures { λ r. ⌜ (Put (now (out .entry)) at (refusalLine line refusal) (now (out .exit)) r) × (r ≤ at + refusalRoom) ⌝ }
 {
     let a = put_byte(out, at, 69);
     let b = put_field(out, a, line);
@@ -48,7 +48,7 @@ pub fn put_refusal(out: &mut [u8], at: usize, line: u64, refusal: u64) -> usize
 // T, n, P, M, N.
 pub fn put_totals(out: &mut [u8], at: usize, n: u64, closed: u64, maxima: u64, minima: u64) -> usize
     requires { ⌜ at + totalsRoom ≤ length (now out) ⌝ }
-    ensures { λ r. ⌜ (Appended (now (out .entry)) at (totalsLine n closed maxima minima) (now (out .exit)) r) × (r ≤ at + totalsRoom) ⌝ }
+    ensures { λ r. ⌜ (Put (now (out .entry)) at (totalsLine n closed maxima minima) (now (out .exit)) r) × (r ≤ at + totalsRoom) ⌝ }
 {
     let a = put_byte(out, at, 84);
     let b = put_field(out, a, n);

@@ -1,4 +1,5 @@
-// Bytes and numbers in base ten, put one after the other into a lent slice. Each function returns the place after what it has put.
+// Bytes and numbers in base ten, put one after the other into a lent slice. Each function returns the place after what
+// it has put.
 ghost use mathlib.Core.List.{[], _∷_};
 ghost use mathlib.Core.Path.{_≡_};
 ghost use Prim.Native.Nat.{_+_, _≤_, _<_};
@@ -6,11 +7,11 @@ ghost use lib.IntN.{pos};
 ghost use lib.ListN.{length};
 ghost use lib.Signed.{ltZ};
 ghost use Rattle.print.specs.Decimal.{decimal, decimalℤ};
-ghost use Rattle.print.specs.Appended.{Appended};
+ghost use Rattle.print.specs.Put.{Put};
 
 pub(crate) fn put_byte(out: &mut [u8], at: usize, b: u8) -> usize
     requires { ⌜ at < length (now out) ⌝ }
-    ensures { λ r. ⌜ Appended (now (out .entry)) at (b ∷ []) (now (out .exit)) r ⌝ }
+    ensures { λ r. ⌜ Put (now (out .entry)) at (b ∷ []) (now (out .exit)) r ⌝ }
 {
     out[at] = b;
     at + 1
@@ -27,7 +28,7 @@ fn digit_byte(d: u64) -> u8
 // The digits of a number. It calls itself for those before the last, at most twenty deep.
 fn put_digits(out: &mut [u8], at: usize, n: u64) -> usize
     requires { ⌜ at + length (decimal n) ≤ length (now out) ⌝ }
-    ensures { λ r. ⌜ Appended (now (out .entry)) at (decimal n) (now (out .exit)) r ⌝ }
+    ensures { λ r. ⌜ Put (now (out .entry)) at (decimal n) (now (out .exit)) r ⌝ }
 {
     if n < 10 {
         put_byte(out, at, digit_byte(n))
@@ -40,7 +41,7 @@ fn put_digits(out: &mut [u8], at: usize, n: u64) -> usize
 // A tab and a number.
 pub(crate) fn put_field(out: &mut [u8], at: usize, n: u64) -> usize
     requires { ⌜ at + 21 ≤ length (now out) ⌝ }
-    ensures { λ r. ⌜ (Appended (now (out .entry)) at (9 ∷ decimal n) (now (out .exit)) r) × (r ≤ at + 21) ⌝ }
+    ensures { λ r. ⌜ (Put (now (out .entry)) at (9 ∷ decimal n) (now (out .exit)) r) × (r ≤ at + 21) ⌝ }
 {
     let next = put_byte(out, at, 9);
     put_digits(out, next, n)
@@ -55,7 +56,7 @@ fn is_negative(z: i64) -> bool
 // A tab and a signed number.
 pub(crate) fn put_signed_field(out: &mut [u8], at: usize, z: i64) -> usize
     requires { ⌜ at + 22 ≤ length (now out) ⌝ }
-    ensures { λ r. ⌜ (Appended (now (out .entry)) at (9 ∷ decimalℤ z) (now (out .exit)) r) × (r ≤ at + 22) ⌝ }
+    ensures { λ r. ⌜ (Put (now (out .entry)) at (9 ∷ decimalℤ z) (now (out .exit)) r) × (r ≤ at + 22) ⌝ }
 {
     let size = ints::magnitude(z);
     if is_negative(z) {

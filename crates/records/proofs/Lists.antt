@@ -1,5 +1,6 @@
--- Laws of `padded`, `firstRecords` and `overwritten`. After i turns the loop of `load` has made `padded recordLimit (take i xs)` of the records xs, and that of `store` has made `overwritten (take i ys) xs` of xs; the laws named `..-step` say what a
--- turn adds, those named `..-all` what the last turn leaves.
+-- Laws of `padded`, `firstRecords` and `overwritten`. After i turns the loop of `load` has made `padded recordLimit
+-- (take i xs)` of the records xs, and that of `store` has made `overwritten (take i ys) xs` of xs; the laws named
+-- `..-step` say what a turn adds, those named `..-all` what the last turn leaves.
 -- Assumes nothing.
 use mathlib.Core.Path.{_≡_, refl, sym, _∙_, ap}
 use Prim.Native.Nat.{ℕ, zero, suc, _<_, _≤_, min}

@@ -1,6 +1,8 @@
--- A local array `[Query; 32]` whose records a walk writes one by one: its cell is opened into a row of records, and shut again.
+-- A local array `[Query; 32]` whose records a walk writes one by one: its cell is opened into a row of records, and
+-- shut again.
 --     local-out        the local at the list xs  ⊢  the whole share of the row xs, from the local's place
---     local-in         the whole share of a row of 32 records  ⊢  the local at that list, which is then a list of its type
+--     local-in         the whole share of a row of 32 records  ⊢  the local at that list, which is then a list of its
+--     type
 -- Assumes `Given`.
 use mathlib.Core.Path.{_≡_, refl, subst}
 use Prim.Native.Nat.{ℕ}

@@ -1,5 +1,7 @@
--- A call of a function over plain values, inside a walk: one step. It says nothing of the crate, and can be copied as it stands.
---     calls-plain      nothing that the caller has is needed by the callee, and all that is had from it is what its result is and a fact of it.        The result's machine value is written out (`only (vals r)`)
+-- A call of a function over plain values, inside a walk: one step. It says nothing of the crate, and can be copied as
+-- it stands.
+--     calls-plain      nothing that the caller has is needed by the callee, and all that is had from it is what its
+--     result is and a fact of it.        The result's machine value is written out (`only (vals r)`)
 --     plain-post       the callee's `post`, at a signature with no lifetime, gives that, from what its `ensured` says
 -- Assumes `Given`, and that the table of calls is monotone under a frame.
 use mathlib.Core.Path.{sym, ap, subst}

@@ -1,5 +1,5 @@
--- The types `Query` and `[Query; 32]` as a walk cites them: their rows, how a value's machine value is spelled, and the laws.
--- Assumes nothing; the laws take `Given`.
+-- The types `Query` and `[Query; 32]` as a walk cites them: their rows, how a value's machine value is spelled, and the
+-- laws. Assumes nothing; the laws take `Given`.
 use mathlib.Core.Path.{sym, _∙_, subst}
 use mathlib.Core.List.{List, [], _∷_, map}
 use lib.ListN.{length-map}

@@ -1,9 +1,12 @@
--- The calls of `load` and `store` inside the walk of a function that was lent the records as a `&κ mut [Query]`: one step each.
---     calls-load       the slice is lent as a `&[Query]` for a lifetime of the call, `load` is called, and the slice is back as it was. Of the result: it is `firstRecords` of the records
+-- The calls of `load` and `store` inside the walk of a function that was lent the records as a `&κ mut [Query]`: one
+-- step each.
+--     calls-load       the slice is lent as a `&[Query]` for a lifetime of the call, `load` is called, and the slice is
+--     back as it was. Of the result: it is `firstRecords` of the records
 --     calls-load-shr   the same of a `&κ [Query]`, which is Copy and stays
 --     calls-store      the slice is given up to `store`. What is left is what says its last records: `overwritten`
--- In front of the context stand the token of κ and what the slice owns; each operand is read with two entries more (calls-load) or one less (calls-store) in front: see the types.
--- Assumes `Given`, and that the table of calls is monotone under a frame.
+-- In front of the context stand the token of κ and what the slice owns; each operand is read with two entries more
+-- (calls-load) or one less (calls-store) in front: see the types. Assumes `Given`, and that the table of calls is
+-- monotone under a frame.
 use mathlib.Core.Path.{_≡_, refl, sym, ap, subst}
 use Prim.Native.Nat.{ℕ, _<_, _^_}
 use mathlib.Core.List.{List, [], _∷_}

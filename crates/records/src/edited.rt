@@ -9,7 +9,8 @@ ghost use mathlib.Core.Path.{_≡_};
 ghost use Rattle.registry.specs.Records.{recordLimit, placeOf};
 ghost use Rattle.records.specs.Edited.{same, usedIn, appendedTo, withdrawnFrom};
 
-// How many records are used after a change of the list, the list after it, and how many of its records are to be put back.
+// How many records are used after a change of the list, the list after it, and how many of its records are to be put
+// back.
 pub struct Edited {
     pub count: usize,
     pub list: [Query; 32],

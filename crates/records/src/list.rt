@@ -1,4 +1,5 @@
-// The lent query list (document 01, "The board"): find, append and withdraw. Each takes a copy of the first 32 records, works on it, and puts back what changed.
+// The lent query list (document 01, "The board"): find, append and withdraw. Each takes a copy of the first 32 records,
+// works on it, and puts back what changed.
 use crate::copy::load;
 use crate::copy::store;
 use crate::edited;
@@ -16,7 +17,8 @@ pub fn find(queries: &[Query], count: usize, number: u32) -> Found
     edited::find(list, queries.len(), count, number)
 }
 
-// A record joins after the used ones, where there is a place for it. What is returned is how many are used then: one more, or the count as it was given where there is no place.
+// A record joins after the used ones, where there is a place for it. What is returned is how many are used then: one
+// more, or the count as it was given where there is no place.
 pub fn append(queries: &mut [Query], count: usize, q: Query) -> usize
     ensures { λ r. ⌜ (r ≡ appendedCount count (now (queries .entry))) × (now (queries .exit) ≡ appended count q (now (queries .entry))) ⌝ }
 {
@@ -28,8 +30,9 @@ pub fn append(queries: &mut [Query], count: usize, q: Query) -> usize
     o.count
 }
 
-// What has this number leaves the used records, if it is among them: the others keep their order, and every record after them becomes 0, up to the 32nd. What is returned is how many
-// are used then; where nothing leaves, nothing changes, and it is the count as it was given.
+// What has this number leaves the used records, if it is among them: the others keep their order, and every record
+// after them becomes 0, up to the 32nd. What is returned is how many are used then; where nothing leaves, nothing
+// changes, and it is the count as it was given.
 pub fn withdraw(queries: &mut [Query], count: usize, number: u32) -> usize
     ensures { λ r. ⌜ (r ≡ withdrawnCount number count (now (queries .entry))) × (now (queries .exit) ≡ withdrawn number count (now (queries .entry))) ⌝ }
 {

@@ -1,4 +1,5 @@
--- The laws of check 2 on records: what the checks of the fields leave of a broken one, numbers that repeat, and the whole check.
+-- The laws of check 2 on records: what the checks of the fields leave of a broken one, numbers that repeat, and the
+-- whole check.
 -- Assumes nothing.
 use mathlib.Core.Path.{_≡_, refl, sym, ap, ap₂, _∙_}
 use mathlib.Core.Bool.{Bool, true, false, _||_}

@@ -1,4 +1,5 @@
--- The laws of a list of records that a query joins, and of the records that are kept where one leaves: the used ones, and that the unused ones stay 0.
+-- The laws of a list of records that a query joins, and of the records that are kept where one leaves: the used ones,
+-- and that the unused ones stay 0.
 -- Assumes nothing.
 use mathlib.Core.Path.{_≡_, sym, ap, _∙_}
 use mathlib.Core.Bool.{Bool, true, false}

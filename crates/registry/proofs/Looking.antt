@@ -1,4 +1,5 @@
--- What one look at each query shows: whether a record is broken, and where none is, whether the numbers ascend, whether there is an edge, and the horizon.
+-- What one look at each query shows: whether a record is broken, and where none is, whether the numbers ascend, whether
+-- there is an edge, and the horizon.
 -- Assumes nothing.
 use Prim.Native.Nat.{ℕ, _+_, _≤_, _<_, min}
 use mathlib.Core.Path.{_≡_, refl, sym, ap, _∙_}

@@ -1,5 +1,5 @@
--- The laws of a scan over the first c elements of a list, place by place: what is left from place i on is the element at i and what is left
--- after it, and so for each test, count and least start that is taken over them.
+-- The laws of a scan over the first c elements of a list, place by place: what is left from place i on is the element
+-- at i and what is left after it, and so for each test, count and least start that is taken over them.
 -- Assumes nothing.
 use mathlib.Core.Path.{_≡_, refl, sym, ap, _∙_, subst}
 use mathlib.Core.Bool.{Bool, true, false, _&&_, _||_, cond}
@@ -152,7 +152,8 @@ due-few n c qs = omega (arith, filter-few (due n) (take c qs), length-take c qs)
 
 -- ---- the horizon
 
--- the lesser of the least start so far and the horizon of what is left: at the first place, with n as the least, it is the whole horizon
+-- the lesser of the least start so far and the horizon of what is left: at the first place, with n as the least, it is
+-- the whole horizon
 pub least-first : (n : ℕ) (qs : List Query) → Each (λ (q : Query). q .origin ≤ n) qs → min n (horizon n qs) ≡ horizon n qs
 least-first n qs h = omega (arith, horizon-le-count n qs h)
 

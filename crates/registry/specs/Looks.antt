@@ -1,4 +1,5 @@
--- One look at each registered query, before a reading that makes the count m of n: what check 2 asks of its record, its number after the one before it, its edge and where its window starts at m.
+-- One look at each registered query, before a reading that makes the count m of n: what check 2 asks of its record, its
+-- number after the one before it, its edge and where its window starts at m.
 -- Assumes nothing.
 use Prim.Native.Nat.{ℕ, min}
 use mathlib.Core.Bool.{Bool, true, false, cond, _&&_, _||_}

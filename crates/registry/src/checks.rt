@@ -1,4 +1,5 @@
-// What the calls are refused for: check 2 on the used records, and checks 3 to 11 (document 01, "The calls and where each refuses").
+// What the calls are refused for: check 2 on the used records, and checks 3 to 11 (document 01, "The calls and where
+// each refuses").
 use crate::queries::Queries;
 use crate::queries::RECORDS;
 use window::query::Count;
@@ -54,7 +55,8 @@ fn found_at(found: bool, i: usize, j: usize, end: usize, same: bool) -> bool
     either(found, both(after, same))
 }
 
-// Whether this number stands at a place after i and before the end. Every place is looked at, with no early exit, so that the compiler can compare several at once.
+// Whether this number stands at a place after i and before the end. Every place is looked at, with no early exit, so
+// that the compiler can compare several at once.
 fn occurs(number: u32, numbers: [u32; 32], i: usize, end: usize) -> bool
     requires { ⌜ end ≤ recordLimit ⌝ }
     ensures { λ r. ⌜ r ≡ occurs number (drop (i + 1) (take end numbers)) ⌝ }
@@ -136,7 +138,8 @@ impl Queries {
         Verdict::Refused(Refusal::NotRegistered)
     }
 
-    // Checks 10 and 11, with n readings taken and an answer table of this many places. Where there are places for all queries, it is not asked how many are due.
+    // Checks 10 and 11, with n readings taken and an answer table of this many places. Where there are places for all
+    // queries, it is not asked how many are due.
     pub fn check_reading(self, n: Count, places: usize) -> Verdict
         requires { ⌜ (self .count ≤ recordLimit) × Each Limits (used self) ⌝ }
         ensures { λ r. ⌜ r ≡ firstRefusal (readingChecks n (used self) places) ⌝ }

@@ -29,7 +29,8 @@ pub(crate) struct Seen {
     pub least: Count,
 }
 
-// What a look at all queries has shown: check 2 on the list, and of a list that passes whether a window of some query can end or begin at m, and the horizon at m.
+// What a look at all queries has shown: check 2 on the list, and of a list that passes whether a window of some query
+// can end or begin at m, and the horizon at m.
 pub struct Scan {
     pub damaged: bool,
     pub edge: bool,

@@ -20,7 +20,7 @@ use Rattle.engine.specs.Answers.{places, answersIn}
 use Rattle.engine.specs.Tables.{Tables}
 use Rattle.engine.specs.Machine.{Machine, machine}
 use Rattle.engine.specs.Outcomes.{verdictOutcome, readingOutcome}
-use Rattle.engine.specs.Contracts.{Ensures, written, ReadingEnsures}
+use Rattle.engine.specs.Contracts.{Ensures, placesAfter, ReadingEnsures}
 use Rattle.engine.proofs.Places.{places-length}
 use Rattle.engine.proofs.Keeping.{tables-same}
 use Rattle.parse.specs.declared.line.Line.{Line}
@@ -71,7 +71,7 @@ answers-count zero t = refl
 answers-count (suc k) t = ap suc (answers-count k (drop answerPlaces t))
 
 -- what was written stands in the table
-written-within : (o : Answered) (before after : List ℤ) → after ≡ written (readingOutcome o after) before → Within o after
+written-within : (o : Answered) (before after : List ℤ) → after ≡ placesAfter (readingOutcome o after) before → Within o after
 written-within (answered.Answers k) before after e =
     omega (arith, ap length e, length-append (places (answersIn k after)) (drop (answerPlaces * length (answersIn k after)) before), places-length (answersIn k after), answers-count k after)
 written-within (answered.Refused r) before after e = tt

@@ -9,7 +9,7 @@ use lib.Dec.{ltb}
 use borrow.Author.Tests.{ltb-true, ltb-false}
 use lib.ListN.{length, take, length-append, length-take}
 use lib.Seq.{slice, slice-empty, take-all}
-use Rattle.engine.specs.Tables.{Tables, longEnough}
+use Rattle.engine.specs.Tables.{Tables, tablesLong}
 use Rattle.session.specs.Meaning.{lineRoom}
 use Rattle.session.specs.Stream.{Running, opened, fedAll}
 use Rattle.session.specs.Contracts.{Held, Shown, Says, lineLimit, OpenEnsures, FeedEnsures, finishRoom, FinishEnsures}
@@ -45,7 +45,7 @@ progress {chunk} {old} {new} {from} {to} {written} {h} {h′} r f sh room byte n
 -- ---- a program's turns
 
 -- opened
-pub reached-first : {t : Tables} {h : Held} → longEnough t ≡ true → OpenEnsures t h → Reached t [] h
+pub reached-first : {t : Tables} {h : Held} → tablesLong t ≡ true → OpenEnsures t h → Reached t [] h
 reached-first {t} {h} long o = record { text = []; begun = record { lent = t; long = long; first = h; opens = o; feeds = none }; on = refl }
 
 -- input that is equal to this

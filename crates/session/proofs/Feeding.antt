@@ -24,8 +24,8 @@ use Rattle.parse.specs.declared.line.Line.{Line}
 use Rattle.parse.specs.Fields.{until}
 use Rattle.parse.specs.Lines.{lineLength, parsed}
 use Rattle.parse.proofs.Reading.{too-long}
-use Rattle.print.specs.Appended.{Appended}
-use Rattle.print.proofs.Appending.{appended-none, appended-then, appended-as, appends-none, appends-then}
+use Rattle.print.specs.Put.{Put}
+use Rattle.print.proofs.Putting.{put-none, put-then, put-as, puts-none, puts-then}
 use Rattle.session.specs.declared.kept.Kept.{Kept}
 use Rattle.session.specs.declared.stream.Session.{Session}
 use Rattle.session.specs.Meaning.{answerTable, lineStep, printed, lineRoom}
@@ -60,7 +60,7 @@ module _ (s : Session) (t t′ : Tables) (line : Line) (o : Answered) (places : 
   asked r sh = asks ∙ ap parsed (sh .line) ∙ parsed-kept (r .line)
 
   pub line-ended : lines ≡ s .lines + 1 → n ≡ st .count → none .length ≡ 0
-      → (Appended old at (printed n lines (readingOutcome o places)) new next) × (next ≤ at + lineRoom)
+      → (Put old at (printed n lines (readingOutcome o places)) new next) × (next ≤ at + lineRoom)
       → LineEnsures (held s t) old at (held (record { state = st; queries = queries; lines = lines; kept = none }) t′) new next
   line-ended el en ek (text, room) =
       record {
@@ -68,7 +68,7 @@ module _ (s : Session) (t t′ : Tables) (line : Line) (o : Answered) (places : 
         unchanged = λ r sh k e. called .unchanged k (called .agrees (r .position .state) (sh .represents) ∙ ap (λ (x : Line). (lineStep (r .position .state) x) .outcome) (asked r sh) ∙ e);
         counts = el;
         room = room;
-        puts = record { bytes = printed n lines (readingOutcome o places); appended = text };
+        puts = record { bytes = printed n lines (readingOutcome o places); put = text };
         kept = called .kept;
       }
     where
@@ -83,7 +83,7 @@ module _ (s : Session) (t t′ : Tables) (line : Line) (o : Answered) (places : 
           let is-outcome : readingOutcome o places ≡ (lineStep before line) .outcome = called .agrees before (sh .represents) in
           record {
             shown = record { represents = rw (sym same) rep; lines = is-line; line = ap (λ (k : ℕ). take k (none .bytes)) ek };
-            text = rw (sym same) (appended-as (ap (λ (k : ℕ). printed k lines (readingOutcome o places)) is-n
+            text = rw (sym same) (put-as (ap (λ (k : ℕ). printed k lines (readingOutcome o places)) is-n
                 ∙ ap (λ (k : ℕ). printed (count ((lineStep before line) .state)) k (readingOutcome o places)) is-line
                 ∙ ap (printed (count ((lineStep before line) .state)) (r .position .lines + 1)) is-outcome) text);
           }
@@ -161,8 +161,8 @@ module _ (chunk : List ℕ) (from to : ℕ) (is : to ≡ from + until 10 (drop f
     pub line-kept : (old : List ℕ) (at : ℕ) → Streams (slice from to chunk) (held s t) old at (held s′ t) old at
     line-kept old at =
         record {
-          says = λ r sh. rw (fed-part r) (record { shown = longer r sh; text = appended-none old at });
-          puts = appends-none old at;
+          says = λ r sh. rw (fed-part r) (record { shown = longer r sh; text = put-none old at });
+          puts = puts-none old at;
           kept = tables-same t;
         }
 
@@ -188,14 +188,14 @@ module _ (chunk : List ℕ) (from to : ℕ) (is : to ≡ from + until 10 (drop f
 
 pub streams-none : (chunk : List ℕ) (from : ℕ) (h : Held) (old : List ℕ) (at : ℕ) → Streams (slice from from chunk) h old at h old at
 streams-none chunk from h old at =
-    rw (slice-empty from chunk) (record { says = λ r sh. record { shown = sh; text = appended-none old at }; puts = appends-none old at; kept = tables-same (h .tables) })
+    rw (slice-empty from chunk) (record { says = λ r sh. record { shown = sh; text = put-none old at }; puts = puts-none old at; kept = tables-same (h .tables) })
 
 streams-then : {xs ys : List ℕ} {h i j : Held} {old mid new : List ℕ} {at next last : ℕ}
     → Streams xs h old at i mid next → Streams ys i mid next j new last → Streams (xs ++ ys) h old at j new last
 streams-then {xs} {ys} {h} {i} {j} {old} {mid} {new} {at} {next} {last} p q =
     record {
       says = says;
-      puts = appends-then (p .puts) (q .puts);
+      puts = puts-then (p .puts) (q .puts);
       kept = tables-then (p .kept) (q .kept);
     }
   where
@@ -203,7 +203,7 @@ streams-then {xs} {ys} {h} {i} {j} {old} {mid} {new} {at} {next} {last} p q =
     says r sh =
         let first : Says (fedAll r xs) i old at mid next = p .says r sh in
         let second : Says (fedAll ((fedAll r xs) .running) ys) j mid next new last = q .says ((fedAll r xs) .running) (first .shown) in
-        rw (fed-append r xs ys) (record { shown = second .shown; text = appended-then (first .text) (second .text) })
+        rw (fed-append r xs ys) (record { shown = second .shown; text = put-then (first .text) (second .text) })
 
 -- the bytes of a chunk that were taken, and those taken next
 pub streams-next : (chunk : List ℕ) (from i to : ℕ) {h j k : Held} {old mid new : List ℕ} {at next last : ℕ} → from ≤ i → i ≤ to → to ≤ length chunk

@@ -20,13 +20,13 @@ use Rattle.engine.specs.Contracts.{StartEnsures}
 use Rattle.engine.proofs.Keeping.{tables-same}
 use Rattle.parse.specs.Lines.{parsed}
 use Rattle.print.specs.Lines.{totalsLine, totalsRoom}
-use Rattle.print.specs.Appended.{Appended}
-use Rattle.print.proofs.Appending.{appended-none, appended-then, appended-as, appends-none, appends-then}
+use Rattle.print.specs.Put.{Put}
+use Rattle.print.proofs.Putting.{put-none, put-then, put-as, puts-none, puts-then}
 use Rattle.session.specs.declared.kept.Kept.{Kept}
 use Rattle.session.specs.declared.stream.Session.{Session}
 use Rattle.session.specs.Meaning.{lineReported, finished, totalsText, lineRoom}
 use Rattle.session.specs.Stream.{Running, lineEnded, begun, ended, keptLength, keptLine}
-use Rattle.session.specs.Contracts.{Held, held, machineOf, RefusesEnsures, Shown, Says, lineLimit, goesOn, LineEnsures, OpenEnsures, finishRoom, LastEnsures, FinishEnsures}
+use Rattle.session.specs.Contracts.{Held, held, sessionMachine, RefusesEnsures, Shown, Says, lineLimit, goesOn, LineEnsures, OpenEnsures, finishRoom, LastEnsures, FinishEnsures}
 
 -- ---- the first session
 
@@ -93,9 +93,9 @@ module _ (s : Session) (t : Tables) (old : List ℕ) (room : keptLength ≤ leng
   no-line none =
       record {
         line = λ r sh few b. absurd (false≢true (sym (none _ refl few) ∙ begun-kept (s .kept) (r .line) room (sh .line) ∙ b));
-        none = λ r sh b. (refl, appended-none old 0);
+        none = λ r sh b. (refl, put-none old 0);
         room = omega arith;
-        puts = appends-none old 0;
+        puts = puts-none old 0;
         kept = tables-same t;
       }
 
@@ -122,26 +122,26 @@ ended-by : (r : Running) (b : Bool) → begun (r .line) ≡ b → ended r ≡ co
 unfolding ended
 ended-by r b e = ap (λ (x : Bool). cond x (finished (lineReported (r .position) (parsed (r .line)))) (totalsText (r .position .state))) e
 
-pub finishes : (h h′ : Held) (old mid new : List ℕ) (next written : ℕ) {refuses : Bool} → RefusesEnsures (machineOf h) refuses → refuses ≡ false → LastEnsures h old h′ mid next → finishRoom ≤ length old → length new ≡ length old
-    → (Appended mid next (totalsLine (h′ .session .state .count) (h′ .session .state .closed) (h′ .session .state .maxima .comparisons) (h′ .session .state .minima .comparisons)) new written) × (written ≤ next + totalsRoom)
+pub finishes : (h h′ : Held) (old mid new : List ℕ) (next written : ℕ) {refuses : Bool} → RefusesEnsures (sessionMachine h) refuses → refuses ≡ false → LastEnsures h old h′ mid next → finishRoom ≤ length old → length new ≡ length old
+    → (Put mid next (totalsLine (h′ .session .state .count) (h′ .session .state .closed) (h′ .session .state .maxima .comparisons) (h′ .session .state .minima .comparisons)) new written) × (written ≤ next + totalsRoom)
     → FinishEnsures h old (h′ .tables) new written
 finishes h h′ old mid new next written told passed last room size (text, end) =
     record {
       says = λ r sh few long. says r sh few (begun (r .line)) refl;
       short = λ l. absurd (omega arith);
       refuses = λ e. absurd (false≢true (sym passed ∙ told .always e));
-      puts = appends-then (last .puts) (record { bytes = _; appended = text });
+      puts = puts-then (last .puts) (record { bytes = _; put = text });
       fits = omega (arith, last .room, end, size);
       kept = last .kept;
     }
   where
-    says : (r : Running) → Shown r h → h .session .lines ≤ lineLimit → (b : Bool) → begun (r .line) ≡ b → Appended old 0 (ended r) new written
+    says : (r : Running) → Shown r h → h .session .lines ≤ lineLimit → (b : Bool) → begun (r .line) ≡ b → Put old 0 (ended r) new written
     says r sh few true e =
         let line : Says (lineEnded r) h′ old 0 mid next = last .line r sh few e in
-        appended-as (sym (ended-by r true e)) (appended-then (line .text) (appended-as (totals-are _ (machineOf h′) (line .shown .represents)) text))
+        put-as (sym (ended-by r true e)) (put-then (line .text) (put-as (totals-are _ (sessionMachine h′) (line .shown .represents)) text))
     says r sh few false e =
-        let none : (h′ ≡ h) × Appended old 0 [] mid next = last .none r sh e in
-        appended-as (sym (ended-by r false e)) (appended-then (none .1) (appended-as (totals-are (r .position .state) (machineOf h′) (subst (λ (x : Held). Represents (r .position .state) (machineOf x)) (sym (none .0)) (sh .represents))) text))
+        let none : (h′ ≡ h) × Put old 0 [] mid next = last .none r sh e in
+        put-as (sym (ended-by r false e)) (put-then (none .1) (put-as (totals-are (r .position .state) (sessionMachine h′) (subst (λ (x : Held). Represents (r .position .state) (sessionMachine x)) (sym (none .0)) (sh .represents))) text))
 
 -- nothing is printed: the output has no room, or no session is shown
 pub no-finish : (h : Held) (old : List ℕ) → ((r : Running) → Shown r h → finishRoom ≤ length old → ⊥) → FinishEnsures h old (h .tables) old 0
@@ -150,7 +150,7 @@ no-finish h old never =
       says = λ r sh few long. absurd (never r sh long);
       short = λ k. (refl, (refl, refl));
       refuses = λ e. (refl, (refl, refl));
-      puts = appends-none old 0;
+      puts = puts-none old 0;
       fits = omega arith;
       kept = tables-same (h .tables);
     }

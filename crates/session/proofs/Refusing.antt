@@ -14,12 +14,12 @@ use Rattle.window.specs.Model.{count, step, totalsOf}
 use Rattle.window.proofs.Steps.{accepted-refused}
 use Rattle.engine.specs.declared.calls.TotalsReply.{TotalsReply}
 use Rattle.engine.specs.declared.calls.TotalsReply.the-variants.{Totals, Refused}
-use Rattle.engine.specs.Tables.{longEnough}
+use Rattle.engine.specs.Tables.{tablesLong}
 use Rattle.engine.specs.Machine.{Machine, Represents}
 use Rattle.engine.specs.Outcomes.{totalsOutcome}
 use Rattle.engine.specs.Contracts.{Ensures, listDamaged}
 use Rattle.session.specs.Stream.{Running}
-use Rattle.session.specs.Contracts.{Held, machineOf, refusesAll, RefusesEnsures, Shown, LinesEnsures, FeedEnsures}
+use Rattle.session.specs.Contracts.{Held, sessionMachine, refusesAll, RefusesEnsures, Shown, LinesEnsures, FeedEnsures}
 use Rattle.session.proofs.Feeding.{streams-none}
 
 -- ---- what totals tells
@@ -27,13 +27,13 @@ use Rattle.session.proofs.Feeding.{streams-none}
 -- totals that are accepted
 pub not-refused : (m : Machine) (reply : TotalsReply) {n p a b : ℕ} → reply ≡ Totals n p a b → Ensures totals m (totalsOutcome reply) m → RefusesEnsures m false
 unfolding refusesAll
-not-refused m reply {n} {p} {a} {b} e told = record { always = λ q. absurd (go (longEnough (m .tables)) refl q); never = λ s h. refl }
+not-refused m reply {n} {p} {a} {b} e told = record { always = λ q. absurd (go (tablesLong (m .tables)) refl q); never = λ s h. refl }
   where
     -- no refusal came
     none : (k : ℕ) → totalsOutcome reply ≡ refused k → ⊥
     none k q = accepted-refused (n ∷ p ∷ a ∷ b ∷ []) [] k (sym (ap totalsOutcome e) ∙ q)
 
-    go : (long : Bool) → longEnough (m .tables) ≡ long → (not long || listDamaged m) ≡ true → ⊥
+    go : (long : Bool) → tablesLong (m .tables) ≡ long → (not long || listDamaged m) ≡ true → ⊥
     go false l q = none 1 (told .short l)
     go true l q = none 2 (told .broken l q)
 
@@ -47,7 +47,7 @@ refused-always m reply {r} e told = record { always = λ q. refl; never = λ s h
 
 -- ---- a chunk
 
-module _ {chunk : List ℕ} {from : ℕ} {h : Held} {old : List ℕ} {refuses : Bool} (told : RefusesEnsures (machineOf h) refuses) where
+module _ {chunk : List ℕ} {from : ℕ} {h : Held} {old : List ℕ} {refuses : Bool} (told : RefusesEnsures (sessionMachine h) refuses) where
   -- nothing is taken
   pub not-fed : refuses ≡ true → FeedEnsures chunk from h old h from old 0
   not-fed e =

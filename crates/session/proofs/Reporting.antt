@@ -20,8 +20,8 @@ use Rattle.engine.specs.declared.calls.Answered.the-variants as answered
 use Rattle.engine.specs.Answers.{answersIn}
 use Rattle.engine.specs.Outcomes.{readingOutcome}
 use Rattle.print.specs.Lines.{answerLine, refusalLine}
-use Rattle.print.specs.Appended.{Appended}
-use Rattle.print.proofs.Appending.{appended-then, appended-as}
+use Rattle.print.specs.Put.{Put}
+use Rattle.print.proofs.Putting.{put-then, put-as}
 use Rattle.session.specs.Meaning.{answerText, answerTexts, answerAt, printed}
 
 -- ---- one answer
@@ -33,7 +33,7 @@ place-read t j h = toZ-ofZ (sfits-of h)
 -- the line of an answer whose four places were read
 pub answer-printed : (n i : ℕ) (t : List ℤ) {o o′ : List ℕ} {a r number kind count : ℕ} {value : ℤ}
     → number ≡ natAbs (getD t (answerPlaces * i) (pos 0)) → kind ≡ natAbs (getD t (answerPlaces * i + 1) (pos 0)) → count ≡ natAbs (getD t (answerPlaces * i + 2) (pos 0)) → value ≡ getD t (answerPlaces * i + 3) (pos 0)
-    → Appended o a (answerLine n number kind count value) o′ r → Appended o a (answerText n (answerAt t i)) o′ r
+    → Put o a (answerLine n number kind count value) o′ r → Put o a (answerText n (answerAt t i)) o′ r
 unfolding answerText
 answer-printed n i t e₁ e₂ e₃ e₄ p = rw (e₁, e₂, e₃, e₄) at p
 
@@ -65,11 +65,11 @@ texts-more n [] a = append-nil (answerText n a)
 texts-more n (b ∷ bs) a = ap (λ (more : List ℕ). answerText n b ++ more) (texts-more n bs a) ∙ sym (append-assoc (answerText n b) (answerTexts n bs) (answerText n a))
 
 -- after i answers, one more
-pub answers-printed : (n i : ℕ) (t : List ℤ) {l m o : List ℕ} {a b c : ℕ} → Appended l a (answerTexts n (answersIn i t)) m b → Appended m b (answerText n (answerAt t i)) o c → Appended l a (answerTexts n (answersIn (i + 1) t)) o c
+pub answers-printed : (n i : ℕ) (t : List ℤ) {l m o : List ℕ} {a b c : ℕ} → Put l a (answerTexts n (answersIn i t)) m b → Put m b (answerText n (answerAt t i)) o c → Put l a (answerTexts n (answersIn (i + 1) t)) o c
 answers-printed n i t p q =
     let next : i + 1 ≡ suc i = omega arith in
-    appended-as
-    (sym (ap (λ (k : ℕ). answerTexts n (answersIn k t)) next ∙ ap (answerTexts n) (answers-more i t) ∙ texts-more n (answersIn i t) (answerAt t i))) (appended-then p q)
+    put-as
+    (sym (ap (λ (k : ℕ). answerTexts n (answersIn k t)) next ∙ ap (answerTexts n) (answers-more i t) ∙ texts-more n (answersIn i t) (answerAt t i))) (put-then p q)
 
 -- ---- by the outcome
 

@@ -6,7 +6,7 @@ use mathlib.Core.Path.{_≡_, refl, sym, ap, _∙_}
 use mathlib.Core.List.{List, _++_}
 use lib.ListN.{take}
 use lib.Seq.{slice}
-use Rattle.print.specs.Appended.{Appended}
+use Rattle.print.specs.Put.{Put}
 use Rattle.session.specs.Stream.{Running, Streamed, opened, following, fedAll, ended}
 use Rattle.session.specs.Contracts.{Held, Shown, Says, lineLimit}
 use Rattle.engine.specs.Tables.{Tables}
@@ -20,7 +20,7 @@ record After (r : Running) (input printed : List ℕ) (h : Held) : Type 0 where
   few : h .session .lines ≤ lineLimit
 
 -- what was put at the front of the output
-front : {old new bytes : List ℕ} {next : ℕ} → Appended old 0 bytes new next → take next new ≡ bytes
+front : {old new bytes : List ℕ} {next : ℕ} → Put old 0 bytes new next → take next new ≡ bytes
 front a = a .text
 
 fed-all : {h h′ : Held} {input text : List ℕ} (r : Running) → Fed h input text h′ → Shown r h → h .session .lines ≤ lineLimit → After r input text h′

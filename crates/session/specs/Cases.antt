@@ -1,4 +1,5 @@
--- The sample session of document 01, its case 11 and some ends of inputs: what is fed, and what is printed. `proofs/Cases.antt` proves that the definitions say so.
+-- The sample session of document 01, its case 11 and some ends of inputs: what is fed, and what is printed.
+-- `proofs/Cases.antt` proves that the definitions say so.
 -- Assumes nothing.
 use Prim.Native.Nat.{ℕ, _+_}
 use mathlib.Core.List.{List, [], _∷_}
@@ -54,7 +55,8 @@ cases =
     (registerText 2 1 5 3 ∷ readingText (pos 5) ∷ readingText (pos 3) ∷ readingText (pos 3) ∷ registerText 7 3 2 2 ∷ readingText (pos 8)
     ∷ readingText (negℤ (pos 2)) ∷ withdrawText 2 ∷ withdrawText 2 ∷ readingText (pos 6) ∷ [])
     (answerLine 3 2 1 3 (pos 11) ∷ answerLine 5 7 3 2 (pos 8) ∷ refusalLine 9 9 ∷ totalsLine 6 4 4 4 ∷ [])
-    -- case 11: a line of 64 bytes is parsed (its number is outside its width), one of 65 is refused; `V -0`, `V 2147483648`, and the ends of the width
+    -- case 11: a line of 64 bytes is parsed (its number is outside its width), one of 65 is refused; `V -0`, `V
+    -- 2147483648`, and the ends of the width
     ∷ case
     (readingBytes (replicate 62 49) ∷ readingBytes (replicate 63 49) ∷ readingBytes (45 ∷ 48 ∷ []) ∷ readingBytes (digits (2 ∷ 1 ∷ 4 ∷ 7 ∷ 4 ∷ 8 ∷ 3 ∷ 6 ∷ 4 ∷ 8 ∷ []))
     ∷ readingBytes (digits (2 ∷ 1 ∷ 4 ∷ 7 ∷ 4 ∷ 8 ∷ 3 ∷ 6 ∷ 4 ∷ 7 ∷ [])) ∷ readingBytes (45 ∷ digits (2 ∷ 1 ∷ 4 ∷ 7 ∷ 4 ∷ 8 ∷ 3 ∷ 6 ∷ 4 ∷ 8 ∷ [])) ∷ readingBytes (45 ∷ digits (2 ∷ 1 ∷ 4 ∷ 7 ∷ 4 ∷ 8 ∷ 3 ∷ 6 ∷ 4 ∷ 9 ∷ [])) ∷ [])

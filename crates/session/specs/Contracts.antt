@@ -17,7 +17,7 @@ use Rattle.engine.specs.declared.calls.Answered.{Answered}
 use Rattle.engine.specs.declared.calls.Answered.the-variants as answered
 use Rattle.engine.specs.declared.calls.Reply.{Reply}
 use Rattle.registry.specs.Records.{used}
-use Rattle.engine.specs.Tables.{Tables, longEnough, TablesKept}
+use Rattle.engine.specs.Tables.{Tables, tablesLong, TablesKept}
 use Rattle.engine.specs.States.{FreshState}
 use Rattle.engine.specs.Machine.{Machine, machine, Represents}
 use Rattle.engine.specs.Outcomes.{readingOutcome}
@@ -25,7 +25,7 @@ use Rattle.engine.specs.Contracts.{zeroedTables, listDamaged}
 use Rattle.parse.specs.declared.line.Line.{Line}
 use Rattle.parse.specs.Lines.{parsed}
 use Rattle.print.specs.Lines.{totalsRoom}
-use Rattle.print.specs.Appended.{Appended, AppendedSome}
+use Rattle.print.specs.Put.{Put, PutSome}
 use Rattle.session.specs.declared.call.Called.{Called}
 use Rattle.session.specs.declared.kept.Kept.{Kept}
 use Rattle.session.specs.declared.stream.Session.{Session}
@@ -61,7 +61,7 @@ pub record CallEnsures (line : Line) (m : Machine) (o : Answered) (places : List
 
 -- every call but start is refused: a table is too short, or the query list is damaged as document 01 lists it
 unfoldable pub refusesAll : Machine → Bool
-refusesAll m = not (longEnough (m .tables)) || listDamaged m
+refusesAll m = not (tablesLong (m .tables)) || listDamaged m
 
 -- whether every call on m is refused: always there, and never where m represents a state of the model
 pub record RefusesEnsures (m : Machine) (refuses : Bool) : Type 0 where
@@ -80,23 +80,24 @@ abbrev pub held : Session → Tables → Held
 held s t = record { session = s; tables = t }
 
 -- the engine's part of it
-abbrev pub machineOf : Held → Machine
-machineOf h = machine (h .session .state) (h .session .queries) (h .tables)
+abbrev pub sessionMachine : Held → Machine
+sessionMachine h = machine (h .session .state) (h .session .queries) (h .tables)
 
 -- a session with these bytes kept of the current line
 abbrev pub keeping : Session → Kept → Session
 keeping s kept = record { state = s .state; queries = s .queries; lines = s .lines; kept = kept }
 
--- what is held shows the running session r: the engine represents its model, and as many bytes of its line are kept as tell what it asks
+-- what is held shows the running session r: the engine represents its model, and as many bytes of its line are kept as
+-- tell what it asks
 pub record Shown (r : Running) (h : Held) : Type 0 where
-  pub represents : Represents (r .position .state) (machineOf h)
+  pub represents : Represents (r .position .state) (sessionMachine h)
   pub lines : h .session .lines ≡ r .position .lines
   pub line : keptLine (h .session .kept) ≡ take keptLength (r .line)
 
 -- what is held shows the running session of s, whose text was put into the output behind the first `at` places
 pub record Says (s : Streamed) (h : Held) (old : List ℕ) (at : ℕ) (new : List ℕ) (next : ℕ) : Type 0 where
   pub shown : Shown (s .running) h
-  pub text : Appended old at (s .text) new next
+  pub text : Put old at (s .text) new next
 
 -- ---- one line
 
@@ -112,11 +113,11 @@ goesOn to size at room lines = ltb to size && (leb (at + lineRoom) room && ltb l
 pub record LineEnsures (h : Held) (old : List ℕ) (at : ℕ) (h′ : Held) (new : List ℕ) (next : ℕ) : Type 0 where
   pub says : (r : Running) → Shown r h → Says (lineEnded r) h′ old at new next
   -- a refused line changes nothing: state, query list and tables are equal
-  pub unchanged : (r : Running) → Shown r h → (k : ℕ) → (lineStep (r .position .state) (parsed (r .line))) .outcome ≡ refused k → machineOf h′ ≡ machineOf h
+  pub unchanged : (r : Running) → Shown r h → (k : ℕ) → (lineStep (r .position .state) (parsed (r .line))) .outcome ≡ refused k → sessionMachine h′ ≡ sessionMachine h
   pub counts : h′ .session .lines ≡ h .session .lines + 1
   pub room : next ≤ at + lineRoom
   -- whatever was held: no other place of the output is written, and none beyond the first 4,096 of a table
-  pub puts : AppendedSome old at new next
+  pub puts : PutSome old at new next
   pub kept : TablesKept (h .tables) (h′ .tables)
 
 -- ---- bytes
@@ -125,10 +126,11 @@ pub record LineEnsures (h : Held) (old : List ℕ) (at : ℕ) (h′ : Held) (new
 pub record Streams (bytes : List ℕ) (h : Held) (old : List ℕ) (at : ℕ) (h′ : Held) (new : List ℕ) (next : ℕ) : Type 0 where
   pub says : (r : Running) → Shown r h → Says (fedAll r bytes) h′ old at new next
   -- whatever was held: no other place of the output is written, and none beyond the first 4,096 of a table
-  pub puts : AppendedSome old at new next
+  pub puts : PutSome old at new next
   pub kept : TablesKept (h .tables) (h′ .tables)
 
--- the rest of a line, or of a chunk if that ends before: the bytes from a place up to another, which is one further at least
+-- the rest of a line, or of a chunk if that ends before: the bytes from a place up to another, which is one further at
+-- least
 pub record RestEnsures (chunk : List ℕ) (from : ℕ) (h : Held) (old : List ℕ) (at : ℕ) (h′ : Held) (to : ℕ) (new : List ℕ) (next : ℕ) : Type 0 where
   pub streams : Streams (slice from to chunk) h old at h′ new next
   pub onward : from < to
@@ -140,10 +142,10 @@ pub record RestEnsures (chunk : List ℕ) (from : ℕ) (h : Held) (old : List �
 
 -- open, on these tables: a fresh engine and no line, where the tables pass check 1
 pub record OpenEnsures (t : Tables) (h : Held) : Type 0 where
-  pub shows : longEnough t ≡ true → Shown opened h
-  pub zeroes : longEnough t ≡ true → h .tables ≡ zeroedTables t
+  pub shows : tablesLong t ≡ true → Shown opened h
+  pub zeroes : tablesLong t ≡ true → h .tables ≡ zeroedTables t
   -- tables that do not pass it stay as they are; the session is that of an engine that took no call
-  pub short : longEnough t ≡ false → (h .tables ≡ t) × (FreshState (h .session .state) × (used (h .session .queries) ≡ []))
+  pub short : tablesLong t ≡ false → (h .tables ≡ t) × (FreshState (h .session .state) × (used (h .session .queries) ≡ []))
   pub few : h .session .lines ≡ 0
   pub none : keptLine (h .session .kept) ≡ []
 
@@ -151,7 +153,8 @@ pub record OpenEnsures (t : Tables) (h : Held) : Type 0 where
 abbrev pub NothingDone : (t t′ : Tables) (old new : List ℕ) (written : ℕ) → Type 0
 NothingDone t t′ old new written = (t′ ≡ t) × ((written ≡ 0) × (new ≡ old))
 
--- bytes of a chunk, from a place on: those up to `to` are taken, and what they print stands in the first places of the output
+-- bytes of a chunk, from a place on: those up to `to` are taken, and what they print stands in the first places of the
+-- output
 pub record TakenEnsures (chunk : List ℕ) (from : ℕ) (h : Held) (old : List ℕ) (h′ : Held) (to : ℕ) (new : List ℕ) (written : ℕ) : Type 0 where
   pub streams : Streams (slice from to chunk) h old 0 h′ new written
   pub onward : from ≤ to
@@ -161,7 +164,8 @@ pub record TakenEnsures (chunk : List ℕ) (from : ℕ) (h : Held) (old : List �
   pub few : h .session .lines ≤ lineLimit → h′ .session .lines ≤ lineLimit
   pub fits : written ≤ length new
 
--- one line after the other: bytes are left only where there is no room for what a line prints at most, or the lines have come to their limit
+-- one line after the other: bytes are left only where there is no room for what a line prints at most, or the lines
+-- have come to their limit
 pub record LinesEnsures (chunk : List ℕ) (from : ℕ) (h : Held) (old : List ℕ) (h′ : Held) (to : ℕ) (new : List ℕ) (written : ℕ) : Type 0 where
   pub taken : TakenEnsures chunk from h old h′ to new written
   pub stops : to < length chunk → written + lineRoom ≤ length old → lineLimit ≤ h′ .session .lines
@@ -172,7 +176,7 @@ pub record FeedEnsures (chunk : List ℕ) (from : ℕ) (h : Held) (old : List �
   -- a session takes all bytes that it has room and line numbers for
   pub stops : (r : Running) → Shown r h → to < length chunk → written + lineRoom ≤ length old → lineLimit ≤ h′ .session .lines
   -- where the engine would refuse every call, no byte is taken, nothing is printed and nothing changes
-  pub refuses : refusesAll (machineOf h) ≡ true → (to ≡ from) × ((h′ .session ≡ h .session) × NothingDone (h .tables) (h′ .tables) old new written)
+  pub refuses : refusesAll (sessionMachine h) ≡ true → (to ≡ from) × ((h′ .session ≡ h .session) × NothingDone (h .tables) (h′ .tables) old new written)
 
 -- what the end of the input prints at most
 abbrev pub finishRoom : ℕ
@@ -181,18 +185,18 @@ finishRoom = lineRoom + totalsRoom
 -- the last line, if it has a byte, ends
 pub record LastEnsures (h : Held) (old : List ℕ) (h′ : Held) (new : List ℕ) (next : ℕ) : Type 0 where
   pub line : (r : Running) → Shown r h → h .session .lines ≤ lineLimit → begun (r .line) ≡ true → Says (lineEnded r) h′ old 0 new next
-  pub none : (r : Running) → Shown r h → begun (r .line) ≡ false → (h′ ≡ h) × Appended old 0 [] new next
+  pub none : (r : Running) → Shown r h → begun (r .line) ≡ false → (h′ ≡ h) × Put old 0 [] new next
   pub room : next ≤ lineRoom
-  pub puts : AppendedSome old 0 new next
+  pub puts : PutSome old 0 new next
   pub kept : TablesKept (h .tables) (h′ .tables)
 
 -- finish: what the end of the input prints stands in the first places of the output
 pub record FinishEnsures (h : Held) (old : List ℕ) (t′ : Tables) (new : List ℕ) (written : ℕ) : Type 0 where
-  pub says : (r : Running) → Shown r h → h .session .lines ≤ lineLimit → finishRoom ≤ length old → Appended old 0 (ended r) new written
+  pub says : (r : Running) → Shown r h → h .session .lines ≤ lineLimit → finishRoom ≤ length old → Put old 0 (ended r) new written
   -- where the output is too short, or the engine would refuse every call, nothing is printed and nothing changes
   pub short : length old < finishRoom → NothingDone (h .tables) t′ old new written
-  pub refuses : refusesAll (machineOf h) ≡ true → NothingDone (h .tables) t′ old new written
+  pub refuses : refusesAll (sessionMachine h) ≡ true → NothingDone (h .tables) t′ old new written
   -- whatever was held: no other place of the output is written, and none beyond the first 4,096 of a table
-  pub puts : AppendedSome old 0 new written
+  pub puts : PutSome old 0 new written
   pub fits : written ≤ length new
   pub kept : TablesKept (h .tables) t′

@@ -1,4 +1,5 @@
--- What a session means (document 01, "Session lines"): its lines, what each asks of the reference model, and what the program prints.
+-- What a session means (document 01, "Session lines"): its lines, what each asks of the reference model, and what the
+-- program prints.
 -- Assumes nothing.
 use Prim.Native.Nat.{ℕ, _+_, _*_}
 use mathlib.Core.Bool.{cond}
@@ -44,7 +45,8 @@ abbrev pub answerTexts : ℕ → List Answer → List ℕ
 answerTexts n [] = []
 answerTexts n (a ∷ more) = answerText n a ++ answerTexts n more
 
--- what a line prints by its outcome, with n readings accepted: an accepted R or D has no answers and prints nothing; a refused line prints E, its number and the refusal
+-- what a line prints by its outcome, with n readings accepted: an accepted R or D has no answers and prints nothing; a
+-- refused line prints E, its number and the refusal
 unfoldable pub printed : (n line : ℕ) → Outcome → List ℕ
 printed n line (accepted numbers answers) = answerTexts n answers
 printed n line (refused k) = refusalLine line k

@@ -1,5 +1,5 @@
--- A whole session as one claim: for every input, however it is cut into chunks, what is written is the session's meaning over the reference model.
--- `proofs/Whole.antt` proves it.
+-- A whole session as one claim: for every input, however it is cut into chunks, what is written is the session's
+-- meaning over the reference model. `proofs/Whole.antt` proves it.
 -- Assumes nothing.
 use Prim.Native.Nat.{ℕ, _≤_, _<_}
 use mathlib.Core.Path.{_≡_}
@@ -7,11 +7,12 @@ use mathlib.Core.Bool.{true}
 use mathlib.Core.List.{List, [], _++_}
 use lib.ListN.{length, take}
 use lib.Seq.{slice}
-use Rattle.engine.specs.Tables.{Tables, longEnough}
+use Rattle.engine.specs.Tables.{Tables, tablesLong}
 use Rattle.session.specs.Meaning.{sessionOutput}
 use Rattle.session.specs.Contracts.{Held, lineLimit, OpenEnsures, FeedEnsures, finishRoom, FinishEnsures}
 
--- calls of feed, each on what the call before left: the bytes that they took, and what stood at the front of the output after each, one after the other
+-- calls of feed, each on what the call before left: the bytes that they took, and what stood at the front of the output
+-- after each, one after the other
 pub data Fed : Held → List ℕ → List ℕ → Held → Type 0 where
   -- no call
   none : {h : Held} → Fed h [] [] h
@@ -19,10 +20,11 @@ pub data Fed : Held → List ℕ → List ℕ → Held → Type 0 where
   more : {h h′ h″ : Held} {chunk old new input text : List ℕ} {from to written : ℕ}
       → FeedEnsures chunk from h old h′ to new written → Fed h′ input text h″ → Fed h (slice from to chunk ++ input) (take written new ++ text) h″
 
--- a session that was opened on tables that pass check 1, whatever they held, and fed this input: what stood at the front of the output, and what is held
+-- a session that was opened on tables that pass check 1, whatever they held, and fed this input: what stood at the
+-- front of the output, and what is held
 pub record Begun (input text : List ℕ) (h : Held) : Type 0 where
   pub lent : Tables
-  pub long : longEnough lent ≡ true
+  pub long : tablesLong lent ≡ true
   pub first : Held
   pub opens : OpenEnsures lent first
   pub feeds : Fed first input text h

@@ -9,7 +9,7 @@ ghost use mathlib.Core.Path.{_≡_};
 ghost use Rattle.window.specs.Refusals.{answerPlaces};
 ghost use Rattle.engine.specs.Answers.{answersIn};
 ghost use Rattle.engine.specs.Outcomes.{readingOutcome};
-ghost use Rattle.print.specs.Appended.{Appended};
+ghost use Rattle.print.specs.Put.{Put};
 ghost use Rattle.print.specs.Lines.{answerRoom};
 ghost use Rattle.session.specs.Meaning.{answerTable, answerAt, answerText, answerTexts, printed, lineRoom};
 ghost use Rattle.session.specs.Contracts.{Within};
@@ -17,7 +17,7 @@ ghost use Rattle.session.specs.Contracts.{Within};
 // One of the answers in an answer table.
 fn report_answer(answers: &[i64], i: usize, n: u64, out: &mut [u8], at: usize) -> usize
     requires { ⌜ (answerPlaces * i + answerPlaces ≤ length (now answers)) × (at + answerRoom ≤ length (now out)) ⌝ }
-    ensures { λ r. ⌜ (Appended (now (out .entry)) at (answerText n (answerAt (now (answers .entry)) i)) (now (out .exit)) r) × (r ≤ at + answerRoom) ⌝ }
+    ensures { λ r. ⌜ (Put (now (out .entry)) at (answerText n (answerAt (now (answers .entry)) i)) (now (out .exit)) r) × (r ≤ at + answerRoom) ⌝ }
 {
     let j = 4 * i;
     let number = magnitude(answers[j]);
@@ -30,7 +30,7 @@ fn report_answer(answers: &[i64], i: usize, n: u64, out: &mut [u8], at: usize) -
 // The first k of them, in order.
 fn report_answers(answers: &[i64], k: usize, n: u64, out: &mut [u8], at: usize) -> usize
     requires { ⌜ (answerPlaces * k ≤ length (now answers)) × ((length (now answers) ≡ answerTable) × (at + lineRoom ≤ length (now out))) ⌝ }
-    ensures { λ r. ⌜ (Appended (now (out .entry)) at (answerTexts n (answersIn k (now (answers .entry)))) (now (out .exit)) r) × (r ≤ at + lineRoom) ⌝ }
+    ensures { λ r. ⌜ (Put (now (out .entry)) at (answerTexts n (answersIn k (now (answers .entry)))) (now (out .exit)) r) × (r ≤ at + lineRoom) ⌝ }
 {
     let mut next = at;
     let mut i = 0;
@@ -51,7 +51,7 @@ pub(crate) fn report(
     at: usize,
 ) -> usize
     requires { ⌜ (Within outcome (now answers)) × ((length (now answers) ≡ answerTable) × (at + lineRoom ≤ length (now out))) ⌝ }
-    ensures { λ r. ⌜ (Appended (now (out .entry)) at (printed n line (readingOutcome outcome (now (answers .entry)))) (now (out .exit)) r) × (r ≤ at + lineRoom) ⌝ }
+    ensures { λ r. ⌜ (Put (now (out .entry)) at (printed n line (readingOutcome outcome (now (answers .entry)))) (now (out .exit)) r) × (r ≤ at + lineRoom) ⌝ }
 {
     match outcome {
         Answered::Answers(k) => report_answers(answers, k, n, out, at),

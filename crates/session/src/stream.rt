@@ -40,7 +40,8 @@ pub struct Session {
     pub kept: Kept,
 }
 
-// What was taken of a chunk: the session after it, the place in the chunk up to which it was taken, and the place in the output up to which it printed.
+// What was taken of a chunk: the session after it, the place in the chunk up to which it was taken, and the place in
+// the output up to which it printed.
 pub struct Taken {
     pub session: Session,
     pub to: usize,
@@ -181,7 +182,8 @@ pub(crate) fn end_line(
     }
 }
 
-// The rest of a line: the bytes of the chunk from a place on, up to the next byte 10, which ends the line, or to the chunk's end.
+// The rest of a line: the bytes of the chunk from a place on, up to the next byte 10, which ends the line, or to the
+// chunk's end.
 pub(crate) fn rest_of_line(
     session: Session,
     starts: &mut [Count],
@@ -297,8 +299,9 @@ fn feed_lines(
     }
 }
 
-// Takes bytes of a chunk from a place on, and puts what they print at the front of the output. It takes them all but where the output has no more room for what a
-// line may print, or the lines have come to their limit; and none where the engine refuses every call.
+// Takes bytes of a chunk from a place on, and puts what they print at the front of the output. It takes them all but
+// where the output has no more room for what a line may print, or the lines have come to their limit; and none where
+// the engine refuses every call.
 pub fn feed(
     session: Session,
     starts: &mut [Count],
@@ -373,8 +376,8 @@ fn last_line(
     Ended { session, at: 0 }
 }
 
-// The end of the input: what a last line that has a byte prints, and the totals, at the front of the output. Nothing is printed and nothing changes where the output has
-// no room for them, or the engine refuses every call.
+// The end of the input: what a last line that has a byte prints, and the totals, at the front of the output. Nothing is
+// printed and nothing changes where the output has no room for them, or the engine refuses every call.
 pub fn finish(
     session: Session,
     starts: &mut [Count],

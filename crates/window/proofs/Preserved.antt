@@ -21,7 +21,7 @@ use Rattle.window.specs.Queries.{Limits, lengthLimit, countLimit, edge, 
 use Rattle.window.specs.Partials.{Partial, spanning}
 use Rattle.window.specs.Refusals.{firstRefusal, registerChecks, withdrawChecks, readingChecks, hasNumber, isRegistered}
 use Rattle.window.specs.Calls.{Call, start, register, withdraw, reading, totals}
-use Rattle.window.specs.Model.{State, count, initial, standingAt, closingComparisons, closeAt, closeWhere, holdsReading, withQuery, afterRegister, openIfAny, afterWithdraw, appended, closeAtEdge, afterReading, Stepped, answered, totalsOf, judged, newQuery, step, run, reached}
+use Rattle.window.specs.Model.{State, count, initial, standingAt, closingComparisons, closeAt, closeWhere, holdsReading, withQuery, afterRegister, openIfAny, afterWithdraw, readingTaken, closeAtEdge, afterReading, Stepped, answered, totalsOf, judged, newQuery, step, run, reached}
 use Rattle.window.specs.Invariant.{Ordered, Short, Tracked, Distinct, Shape, WithinLimits, Invariant}
 use Rattle.window.proofs.Lists.{or-neither, not-left, not-right, each-map, each-append, each-filter, length-filter, any-append, any-filter}
 use Rattle.window.proofs.Refusals.{Joins, register-passed, reading-passed}
@@ -31,9 +31,9 @@ use Rattle.window.proofs.Comparisons.{closed-amortized, grown-amortized
 
 -- ---- each step keeps what does not depend on the open partial
 
-appended-within-limits : (s : State) (v : ℤ) → count s < countLimit → Ordered 0 (s .closed) (count s) → WithinLimits s → WithinLimits (appended s v)
-unfolding appended
-appended-within-limits s v room o k =
+taken-within-limits : (s : State) (v : ℤ) → count s < countLimit → Ordered 0 (s .closed) (count s) → WithinLimits s → WithinLimits (readingTaken s v)
+unfolding readingTaken
+taken-within-limits s v room o k =
     record {
       few = k .few;
       distinct = k .distinct;
@@ -125,7 +125,8 @@ initial-invariant =
           };
     }
 
--- the open partial closes at the count b of s, where its queries were tracked up to n, which is b or the count before it
+-- the open partial closes at the count b of s, where its queries were tracked up to n, which is b or the count before
+-- it
 close-invariant : (s : State) (n a : ℕ) → n ≤ count s → count s ≤ n + 1 → a < count s → Shape (some a) n (s .queries) (s .closed) → WithinLimits s → Invariant (closeAt s a)
 unfolding closeAt
 close-invariant s n a lo hi l h k =
@@ -142,7 +143,7 @@ close-invariant s n a lo hi l h k =
     }
 
 reading-invariant : (s : State) (v : ℤ) → count s < countLimit → Invariant s → Invariant (afterReading s v)
-unfolding afterReading closeAtEdge closeWhere appended
+unfolding afterReading closeAtEdge closeWhere readingTaken
 reading-invariant s v room i = go (s .openStart) refl (i .shape)
   where
     n : ℕ
@@ -151,19 +152,19 @@ reading-invariant s v room i = go (s .openStart) refl (i .shape)
     longer : length (s .readings ++ (v ∷ [])) ≡ n + 1
     longer = length-append (s .readings) (v ∷ [])
 
-    k : WithinLimits (appended s v)
-    k = appended-within-limits s v room (shape-ordered (s .openStart) n (s .queries) (s .closed) (i .shape)) (i .withinLimits)
+    k : WithinLimits (readingTaken s v)
+    k = taken-within-limits s v room (shape-ordered (s .openStart) n (s .queries) (s .closed) (i .shape)) (i .withinLimits)
 
-    closing : (a : ℕ) (b : Bool) → s .openStart ≡ some a → any (edge (count (appended s v))) (s .queries) ≡ b → Shape (some a) n (s .queries) (s .closed)
-        → Invariant (cond b (closeAt (appended s v) a) (appended s v))
-    closing a true e f h = close-invariant (appended s v) n a (omega (arith, longer)) (omega (arith, longer)) (omega (arith, h .0, longer)) h k
+    closing : (a : ℕ) (b : Bool) → s .openStart ≡ some a → any (edge (count (readingTaken s v))) (s .queries) ≡ b → Shape (some a) n (s .queries) (s .closed)
+        → Invariant (cond b (closeAt (readingTaken s v) a) (readingTaken s v))
+    closing a true e f h = close-invariant (readingTaken s v) n a (omega (arith, longer)) (omega (arith, longer)) (omega (arith, h .0, longer)) h k
     closing a false e f h =
         record { shape = rw (e, longer) (omega (arith, h .0), h .1, h .2, track-all n (s .closed) a (s .queries) (h .0) (rw longer at f) (h .3)); withinLimits = k }
 
     go : (o : Option ℕ) → s .openStart ≡ o → Shape o n (s .queries) (s .closed)
-        → Invariant (closeWhere (any (edge (count (appended s v))) (s .queries)) o (appended s v))
+        → Invariant (closeWhere (any (edge (count (readingTaken s v))) (s .queries)) o (readingTaken s v))
     go none e h = record { shape = rw (e, longer) (h .0, ordered-weaken 0 (s .closed) n (n + 1) (omega arith) (h .1)); withinLimits = k }
-    go (some a) e h = closing a (any (edge (count (appended s v))) (s .queries)) e refl h
+    go (some a) e h = closing a (any (edge (count (readingTaken s v))) (s .queries)) e refl h
 
 -- where the open partial, if there is one, has just begun, a query can join
 join-invariant : (s : State) (q : Query) → q .origin ≡ count s → Joins (s .queries) q

@@ -1,4 +1,5 @@
--- The laws of queries: the remainder by which the code finds an edge, the places where windows begin and end (W1), and the horizon.
+-- The laws of queries: the remainder by which the code finds an edge, the places where windows begin and end (W1), and
+-- the horizon.
 -- Assumes nothing.
 use mathlib.Core.Path.{_≡_, refl, ap}
 use mathlib.Core.Bool.{Bool, true, false, _&&_, _||_, cond}

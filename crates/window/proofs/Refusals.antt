@@ -1,4 +1,5 @@
--- The laws of the checks: what holds of a call that passes them, and that the fields which pass are those within the limits.
+-- The laws of the checks: what holds of a call that passes them, and that the fields which pass are those within the
+-- limits.
 -- Assumes nothing.
 use mathlib.Core.Path.{_≡_, refl, sym, ap, subst}
 use mathlib.Core.Bool.{Bool, true, false, _||_, cond}

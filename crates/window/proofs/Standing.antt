@@ -1,5 +1,5 @@
--- The laws of the standing entries (a monotonic deque), for every order: what a closing does to them, that eviction at the front changes
--- nothing else, that the first is the greatest of all (W4), and what a closing costs.
+-- The laws of the standing entries (a monotonic deque), for every order: what a closing does to them, that eviction at
+-- the front changes nothing else, that the first is the greatest of all (W4), and what a closing costs.
 -- Assumes nothing.
 use mathlib.Core.Path.{_≡_, refl, sym, ap, _∙_}
 use mathlib.Core.Bool.{Bool, true, false, not, _&&_, _||_, cond, and-true}

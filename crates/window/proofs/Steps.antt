@@ -1,5 +1,5 @@
--- What a call does to the model beside keeping its invariant: a refused call changes nothing, the horizon never falls (I7), and the readings are
--- those of the accepted readings.
+-- What a call does to the model beside keeping its invariant: a refused call changes nothing, the horizon never falls
+-- (I7), and the readings are those of the accepted readings.
 -- Assumes nothing.
 use mathlib.Core.Path.{_≡_, refl, sym, ap, _∙_, subst}
 use mathlib.Core.Bool.{Bool, true, false, not}
@@ -18,7 +18,7 @@ use Rattle.window.specs.Lists.{any, Each}
 use Rattle.window.specs.Queries.{edge, horizon}
 use Rattle.window.specs.Refusals.{refusalNumber, firstRefusal, fieldChecks, listChecks, registerChecks, withdrawChecks, readingChecks, hasNumber}
 use Rattle.window.specs.Calls.{Call, start, register, withdraw, reading, totals, OfReading, Answer, Outcome, accepted, refused}
-use Rattle.window.specs.Model.{State, count, closeAt, closeWhere, holdsReading, withQuery, afterRegister, afterWithdraw, appended, closeAtEdge, afterReading, Stepped, answers, answered, totalsOf, judged, newQuery, step}
+use Rattle.window.specs.Model.{State, count, closeAt, closeWhere, holdsReading, withQuery, afterRegister, afterWithdraw, readingTaken, closeAtEdge, afterReading, Stepped, answers, answered, totalsOf, judged, newQuery, step}
 use Rattle.window.proofs.Lists.{each-append}
 use Rattle.window.proofs.Queries.{horizon-later, horizon-more, horizon-fewer}
 use Rattle.window.specs.Invariant.{Invariant}
@@ -89,14 +89,14 @@ close-keeps P true (some a) s h = h
 close-keeps P false (some a) s h = h
 
 pub reading-readings : (s : State) (v : ℤ) → (afterReading s v) .readings ≡ s .readings ++ (v ∷ [])
-unfolding afterReading closeAtEdge appended
+unfolding afterReading closeAtEdge readingTaken
 reading-readings s v =
-    close-keeps (λ (rs : List ℤ) (qs : List Query). rs ≡ s .readings ++ (v ∷ [])) (any (edge (count (appended s v))) (s .queries)) (s .openStart) (appended s v) refl
+    close-keeps (λ (rs : List ℤ) (qs : List Query). rs ≡ s .readings ++ (v ∷ [])) (any (edge (count (readingTaken s v))) (s .queries)) (s .openStart) (readingTaken s v) refl
 
 pub reading-queries : (s : State) (v : ℤ) → (afterReading s v) .queries ≡ s .queries
-unfolding afterReading closeAtEdge appended
+unfolding afterReading closeAtEdge readingTaken
 reading-queries s v =
-    close-keeps (λ (rs : List ℤ) (qs : List Query). qs ≡ s .queries) (any (edge (count (appended s v))) (s .queries)) (s .openStart) (appended s v) refl
+    close-keeps (λ (rs : List ℤ) (qs : List Query). qs ≡ s .queries) (any (edge (count (readingTaken s v))) (s .queries)) (s .openStart) (readingTaken s v) refl
 
 pub register-readings : (s : State) (q : Query) → (afterRegister s q) .readings ≡ s .readings
 unfolding afterRegister withQuery

@@ -1,5 +1,5 @@
--- How the closed partials stay tiled from every place where a window can begin or end, as readings come, partials close and queries join;
--- and that an open partial is shorter than every slide (I5).
+-- How the closed partials stay tiled from every place where a window can begin or end, as readings come, partials close
+-- and queries join; and that an open partial is shorter than every slide (I5).
 -- Assumes nothing.
 use mathlib.Core.Path.{_≡_, refl, sym, _∙_, subst}
 use mathlib.Core.Bool.{true, false, true≢false}

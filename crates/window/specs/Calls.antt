@@ -6,7 +6,8 @@ use lib.IntN.{ℤ}
 use mir.Syntax.{w32}
 use mir.Val.{SFits}
 
--- a reading is a signed 32-bit whole number. The model takes any number; the code's readings are such by their type, and a law bounds their sums by it
+-- a reading is a signed 32-bit whole number. The model takes any number; the code's readings are such by their type,
+-- and a law bounds their sums by it
 abbrev pub IsReading : ℤ → Type 0
 IsReading z = SFits w32 z
 

@@ -1,6 +1,7 @@
--- The starred cases of document 01, "Figures to hold it to", and its sample session: ONE list of calls with what each returns. A `start` call
--- parts the cases. `proofs/Cases.antt` has the one proof that the reference model returns just this.
--- The document gives P, M and N in some places only. A `totals` row has all four numbers; the comment of its case names those that the document gives.
+-- The starred cases of document 01, "Figures to hold it to", and its sample session: ONE list of calls with what each
+-- returns. A `start` call parts the cases. `proofs/Cases.antt` has the one proof that the reference model returns just
+-- this. The document gives P, M and N in some places only. A `totals` row has all four numbers; the comment of its case
+-- names those that the document gives.
 -- Assumes nothing.
 use Prim.Native.Nat.{ℕ, zero, suc, _+_}
 use mathlib.Core.List.{List, [], _∷_, _++_}
@@ -92,7 +93,8 @@ shortRange =
     ∷ totals returns tally 7 3 0 0
     ∷ []
 
--- 5: maximum over the single reading -2,147,483,648; and, beyond the document, minimum over the single reading 2,147,483,647
+-- 5: maximum over the single reading -2,147,483,648; and, beyond the document, minimum over the single reading
+-- 2,147,483,647
 abbrev endsOfRange : List Row
 endsOfRange =
     start returns ok
@@ -103,7 +105,8 @@ endsOfRange =
     ∷ read (pos 2147483647) returns one 1 4 1 (pos 2147483647)
     ∷ []
 
--- 6: as 3, but a maximum, r 2, s 2, is registered after two readings. P 2 then, 3 after the third; the sum at n = 3 is still 11
+-- 6: as 3, but a maximum, r 2, s 2, is registered after two readings. P 2 then, 3 after the third; the sum at n = 3 is
+-- still 11
 abbrev laterRegistration : List Row
 laterRegistration =
     start returns ok
@@ -160,7 +163,8 @@ sampleSession =
     ∷ totals returns tally 6 4 4 4
     ∷ []
 
--- beyond the document: a reading whose answer table is one place short is refused with 11 and not counted; a number in use is refused with 7
+-- beyond the document: a reading whose answer table is one place short is refused with 11 and not counted; a number in
+-- use is refused with 7
 abbrev refusedReading : List Row
 refusedReading =
     start returns ok

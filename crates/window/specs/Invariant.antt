@@ -1,5 +1,5 @@
--- What holds of the reference model after every list of calls from a start. `proofs/Preserved.antt` proves the invariant,
--- `proofs/Bounds.antt` the bounds.
+-- What holds of the reference model after every list of calls from a start. `proofs/Preserved.antt` proves the
+-- invariant, `proofs/Bounds.antt` the bounds.
 -- Assumes nothing.
 use Prim.Native.Nat.{ℕ, _+_, _*_, _-_, _≤_, _<_, min}
 use mathlib.Core.Path.{_≡_}
@@ -58,15 +58,16 @@ abbrev pub Distinct : List Query → Type 0
 Distinct [] = Unit {0}
 Distinct (q ∷ qs) = (isRegistered (q .number) qs ≡ false) × Distinct qs
 
--- with no open partial: no query is registered. With one that starts at a: some query is, and every registered query is tracked
+-- with no open partial: no query is registered. With one that starts at a: some query is, and every registered query is
+-- tracked
 abbrev pub Shape : Option ℕ → ℕ → List Query → List Partial → Type 0
 Shape none n qs ps = (qs ≡ []) × Ordered 0 ps n
 Shape (some a) n qs ps = (a ≤ n) × Ordered 0 ps a × (1 ≤ length qs) × Each (Tracked n ps a) qs
 
 -- ---- the comparisons made
 
--- the amortized bound, with the partials that stand of all closed ones as the potential. With P partials closed, m comparisons made and S partials
--- standing: m + S is at most 2 P - 1, and 0 where P is 0; S is at least 1 where P is
+-- the amortized bound, with the partials that stand of all closed ones as the potential. With P partials closed, m
+-- comparisons made and S partials standing: m + S is at most 2 P - 1, and 0 where P is 0; S is at least 1 where P is
 pub record Amortized (below : ℤ → ℤ → Bool) (m : ℕ) (readings : List ℤ) (ps : List Partial) : Type 0 where
   pub bound : m + length (standing below (entries (extreme below) readings ps)) + min (length ps) 1 ≤ 2 * length ps
   pub someStand : min (length ps) 1 ≤ length (standing below (entries (extreme below) readings ps))
@@ -89,8 +90,9 @@ pub record Invariant (s : State) : Type 0 where
 
 -- ---- what follows from it for windows
 
--- the window of q at n, from the closed partials that start at its window start or later: its count by the numbers alone, its sum as the sum of their
--- sums, and its extreme, by every order, as the value of the first of them that stands
+-- the window of q at n, from the closed partials that start at its window start or later: its count by the numbers
+-- alone, its sum as the sum of their sums, and its extreme, by every order, as the value of the first of them that
+-- stands
 pub record FromPartials (s : State) (q : Query) : Type 0 where
   pub counts : length (window (s .readings) q) ≡ windowCount (count s) q
   pub sums : sum (window (s .readings) q) ≡ sum (map valueOf (entriesFrom (windowStart (count s) q) (entries sum (s .readings) (s .closed))))

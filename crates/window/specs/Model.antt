@@ -106,8 +106,8 @@ afterWithdraw s number =
     stateWith (s .readings) rest (openIfAny rest (s .openStart)) (s .closed) (s .maxComparisons) (s .minComparisons)
 
 -- the reading joins the readings, and n grows by one
-unfoldable pub appended : State → ℤ → State
-appended s v =
+unfoldable pub readingTaken : State → ℤ → State
+readingTaken s v =
     stateWith (s .readings ++ (v ∷ [])) (s .queries) (s .openStart) (s .closed) (s .maxComparisons) (s .minComparisons)
 
 -- if n is an edge of some registered query, the open partial closes; with no query registered there is no edge
@@ -116,7 +116,7 @@ closeAtEdge s = closeWhere (any (edge (count s)) (s .queries)) (s .openStart) s
 
 -- reading: it joins, and what is open closes at an edge
 unfoldable pub afterReading : State → ℤ → State
-afterReading s v = closeAtEdge (appended s v)
+afterReading s v = closeAtEdge (readingTaken s v)
 
 -- ---- answers, from the raw readings
 

@@ -1,5 +1,5 @@
--- What a query means (document 01, "What a query means" and "Where partials are cut"). The record itself is the code's `Query`:
--- number, kind, range r, slide s and origin, which is document 01's registration point g.
+-- What a query means (document 01, "What a query means" and "Where partials are cut"). The record itself is the code's
+-- `Query`: number, kind, range r, slide s and origin, which is document 01's registration point g.
 -- Assumes nothing.
 use Prim.Native.Nat.{ℕ, _+_, _-_, _%_, _≤_, max, min}
 use mathlib.Core.Bool.{Bool, _&&_, _||_}
@@ -66,8 +66,8 @@ phase m q = m - q .origin
 abbrev pub due : ℕ → Query → Bool
 due n q = ltb (q .origin) n && eqb (phase n q % q .slide) 0
 
--- document 01: the query cuts at m, which is an edge of its windows. At m > g: m - g is a multiple of s (a window ends there), or m - g + r
--- is one (a window begins there)
+-- document 01: the query cuts at m, which is an edge of its windows. At m > g: m - g is a multiple of s (a window ends
+-- there), or m - g + r is one (a window begins there)
 abbrev pub edge : ℕ → Query → Bool
 edge m q = ltb (q .origin) m && (eqb (phase m q % q .slide) 0 || eqb ((phase m q + q .range) % q .slide) 0)
 
@@ -79,7 +79,7 @@ windowStart n q = max (q .origin) (n - q .range)
 abbrev pub windowCount : ℕ → Query → ℕ
 windowCount n q = n - windowStart n q
 
--- the horizon at n: the least max(g, n - r) over the registered queries. With none registered nothing closes, and nothing is measured by it; it is n
--- there.
+-- the horizon at n: the least max(g, n - r) over the registered queries. With none registered nothing closes, and
+-- nothing is measured by it; it is n there.
 abbrev pub horizon : ℕ → List Query → ℕ
 horizon n qs = aggregate min n (map (windowStart n) qs)

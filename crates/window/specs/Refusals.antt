@@ -1,5 +1,5 @@
--- Refusals: document 01's number for each, and the order of the checks ("The calls and where each refuses"). The cases and the verdict are the
--- code's enums `Refusal` and `Verdict`.
+-- Refusals: document 01's number for each, and the order of the checks ("The calls and where each refuses"). The cases
+-- and the verdict are the code's enums `Refusal` and `Verdict`.
 -- Assumes nothing.
 use Prim.Native.Nat.{ℕ, _+_, _*_}
 use mathlib.Core.Bool.{Bool, false, not, _&&_, _||_, cond}
@@ -110,7 +110,7 @@ abbrev pub sharedNumber : List Query → Bool
 sharedNumber [] = false
 sharedNumber (q ∷ qs) = isRegistered (q .number) qs || sharedNumber qs
 
--- with n readings taken: the query count is above 32, or one of these holds of the used records qs, which are as many as that count says
--- wherever it is at most 32
+-- with n readings taken: the query count is above 32, or one of these holds of the used records qs, which are as many
+-- as that count says wherever it is at most 32
 unfoldable pub damaged : (n queryCount : ℕ) → List Query → Bool
 damaged n queryCount qs = ltb queryLimit queryCount || (any (brokenRecord n) qs || sharedNumber qs)

@@ -1,5 +1,5 @@
--- Standing partials, the content of a monotonic deque, and the comparisons of a closing. For maxima `below` is "at most" (`leZ`), for
--- minima "at least" (`geZ`); "greater" in the comments is by that order.
+-- Standing partials, the content of a monotonic deque, and the comparisons of a closing. For maxima `below` is "at
+-- most" (`leZ`), for minima "at least" (`geZ`); "greater" in the comments is by that order.
 -- Assumes nothing.
 use Prim.Native.Nat.{ℕ, _+_}
 use mathlib.Core.Bool.{Bool, not, cond}
@@ -27,7 +27,8 @@ abbrev pub oneIfAny : {A : Type 0} → List A → ℕ
 oneIfAny [] = 0
 oneIfAny (x ∷ xs) = 1
 
--- the comparisons of the closing of y, with xs standing: one for each standing one that is at most y, and one more if any standing one is left
+-- the comparisons of the closing of y, with xs standing: one for each standing one that is at most y, and one more if
+-- any standing one is left
 abbrev pub comparisons : {A : Type 0} → (A → A → Bool) → List (Entry A) → Entry A → ℕ
 comparisons {A} below xs y =
     length (filter (λ (x : Entry A). atMost below x y) xs) + oneIfAny (filter (λ (x : Entry A). exceeds below x y) xs)
@@ -39,7 +40,8 @@ abbrev pub frontOf : {A : Type 0} → A → List (Entry A) → A
 frontOf none [] = none
 frontOf none (x ∷ xs) = x .value
 
--- the entries left when those at the front that start before h are evicted, one after the other; where starts never fall these are all that start at h or later
+-- the entries left when those at the front that start before h are evicted, one after the other; where starts never
+-- fall these are all that start at h or later
 abbrev pub evicted : {A : Type 0} → ℕ → List (Entry A) → List (Entry A)
 evicted h [] = []
 evicted h (x ∷ xs) = cond (live h (x .start)) (x ∷ xs) (evicted h xs)

@@ -46,8 +46,8 @@ impl Query {
         self.phase(n) % self.slide == 0
     }
 
-    // Whether a window of the query can end or begin at m (document 01: the query cuts at m). The phase is reduced before the range is
-    // added to it: m - g + r itself can pass the width of a count.
+    // Whether a window of the query can end or begin at m (document 01: the query cuts at m). The phase is reduced
+    // before the range is added to it: m - g + r itself can pass the width of a count.
     pub fn edge(self, m: Count) -> bool
         requires { ⌜ Limits self ⌝ }
         ensures { λ r. ⌜ r ≡ edge m self ⌝ }

@@ -1,4 +1,5 @@
-// The refusals of document 01, "The calls and where each refuses", by name and number, and the checks of a registration's fields.
+// The refusals of document 01, "The calls and where each refuses", by name and number, and the checks of a
+// registration's fields.
 ghost use mathlib.Core.Path.{_≡_};
 ghost use Rattle.window.specs.Refusals.{refusalNumber, firstRefusal, fieldChecks, within};
 use crate::query::KIND_LIMIT;

@@ -1,4 +1,5 @@
--- `main` meets its contract. The loop's invariant: the tables have the lengths that they were made with. The measure is how many lists are left.
+-- `main` meets its contract. The loop's invariant: the tables have the lengths that they were made with. The measure is
+-- how many lists are left.
 -- Assumes nothing.
 use Prim.Native.Nat.{_-_}
 use mathlib.Core.Path.{_≡_}

@@ -1,4 +1,5 @@
--- `play` meets its contract. The loop's invariant: each table is as long as it came. The measure is how many calls a list can still have.
+-- `play` meets its contract. The loop's invariant: each table is as long as it came. The measure is how many calls a
+-- list can still have.
 -- Assumes nothing.
 use Prim.Native.Nat.{_-_}
 use mathlib.Core.Path.{_≡_}

@@ -1,4 +1,5 @@
--- `conclude` meets its contract: where the input ended, the session is finished, and whole. What is written is inside the output. Assumes nothing.
+-- `conclude` meets its contract: where the input ended, the session is finished, and whole. What is written is inside
+-- the output. Assumes nothing.
 use lib.ListN.{length-take}
 use native.Mathlib.Omega.{arith}
 use borrow.Author.Needs.{needs}

@@ -1,4 +1,5 @@
--- `feed_chunk` meets its contract: the bytes up to a place were fed, in order, at last all. The lengths stay, and what is written is inside the output. The measure is how many bytes of the chunk are left. Assumes nothing.
+-- `feed_chunk` meets its contract: the bytes up to a place were fed, in order, at last all. The lengths stay, and what
+-- is written is inside the output. The measure is how many bytes of the chunk are left. Assumes nothing.
 use native.Mathlib.Omega.{arith}
 use Prim.Native.Nat.{_-_, _≤_}
 use mathlib.Core.Path.{_≡_, refl, _∙_}

@@ -1,4 +1,5 @@
--- `main` does not fault, and ends: the tables have 4,096 places each, and the output has room for the end of a session. Assumes nothing.
+-- `main` does not fault, and ends: the tables have 4,096 places each, and the output has room for the end of a session.
+-- Assumes nothing.
 use native.Mathlib.Omega.{arith}
 use mathlib.Core.Path.{refl}
 use borrow.Author.Needs.{needs}

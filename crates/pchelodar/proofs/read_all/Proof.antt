@@ -1,4 +1,5 @@
--- `read_all` meets its contract: some bytes were fed, and at each turn some more. The lengths stay. The measure is how many reads are left. Assumes nothing.
+-- `read_all` meets its contract: some bytes were fed, and at each turn some more. The lengths stay. The measure is how
+-- many reads are left. Assumes nothing.
 use native.Mathlib.Omega.{arith}
 use mathlib.Core.Path.{_≡_, refl, _∙_}
 use lib.ListN.{length}

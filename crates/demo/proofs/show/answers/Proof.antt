@@ -1,4 +1,5 @@
--- `show::answers` meets its contract. The loop needs no invariant: an index is tested before its number is read. The measure is what is left of the table.
+-- `show::answers` meets its contract. The loop needs no invariant: an index is tested before its number is read. The
+-- measure is what is left of the table.
 -- Assumes nothing.
 use Prim.Native.Nat.{_-_}
 use native.Mathlib.Omega.{arith}

@@ -1,4 +1,5 @@
--- `reading` meets its contract: a check refuses it, or it is taken, what is open closes at an edge, and the due queries are answered.
+-- `reading` meets its contract: a check refuses it, or it is taken, what is open closes at an edge, and the due queries
+-- are answered.
 -- Assumes nothing.
 use mathlib.Core.Path.{_≡_, sym, ap, _∙_, subst}
 use mathlib.Core.Bool.{false}
@@ -100,7 +101,8 @@ edge-is w = found w .scan .ensures .1 .0 (intact w) ∙ ap (λ (k : ℕ). any (e
 horizon-is : (w : tie.After-with-reading) → found w .scan .result .horizon ≡ horizon (w .with-reading .result .count) (used (begun (w .before) .args .queries))
 horizon-is w = found w .scan .ensures .1 .1 (intact w) (found w .before .next-count .ensures .0) ∙ ap (λ (k : ℕ). horizon k (used (begun (w .before) .args .queries))) (grown w)
 
--- the place where an edge was found, from that after the closing; the place after the closing, from that before the answers
+-- the place where an edge was found, from that after the closing; the place after the closing, from that before the
+-- answers
 abbrev cut : tie.After-close-open → tie.Else1
 cut d = d .before .before .before .before .before .before .before
 

@@ -4,7 +4,7 @@ use mathlib.Core.Path.{_≡_, sym, _∙_}
 use mathlib.Core.Bool.{true}
 use borrow.Author.Tests.{not-true, not-false}
 use borrow.Author.Needs.{needs}
-use Rattle.engine.specs.Tables.{Tables, tables, longEnough}
+use Rattle.engine.specs.Tables.{Tables, tables, tablesLong}
 use Rattle.engine.specs.Machine.{Machine, machine}
 use Rattle.engine.proofs.Boards.{Long, long-each, tables-are}
 use Rattle.engine.proofs.Accepting.{accepted-start}
@@ -32,7 +32,7 @@ abbrev handed : tie.Start → Machine
 handed s = machine (s .args .state) (s .args .queries) (board s)
 
 -- check 1 passes
-passed : (x : tie.Else1) → longEnough (board (startOf (x .before))) ≡ true
+passed : (x : tie.Else1) → tablesLong (board (startOf (x .before))) ≡ true
 passed x = sym (x .before .enough .ensures) ∙ not-false _ (x .if1 .left)
 
 -- and so each table is long enough

@@ -1,4 +1,5 @@
--- `lent::calls::put_back` meets its contract: a walk of its MIR, by hand. What was made on the copy is asked for part by part, one call each, and the records are given up to `store`.
+-- `lent::calls::put_back` meets its contract: a walk of its MIR, by hand. What was made on the copy is asked for part
+-- by part, one call each, and the records are given up to `store`.
 -- Assumes nothing.
 use mathlib.Core.Path.{_≡_, refl, _∙_, ap₂}
 use Prim.Native.Nat.{ℕ}

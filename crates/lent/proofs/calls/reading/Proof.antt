@@ -1,4 +1,5 @@
--- `lent::calls::reading` meets its contract: a walk of its MIR, written by tools/walks. The records are copied, and the callee is called on the copy. The records stay lent.
+-- `lent::calls::reading` meets its contract: a walk of its MIR, written by tools/walks. The records are copied, and the
+-- callee is called on the copy. The records stay lent.
 -- Assumes nothing.
 use contract.Running.{givenOf, tables as tables-of, tablesOf}
 use mathlib.Core.Path.{_≡_, refl, ap}
@@ -45,7 +46,7 @@ use Rattle.records.proofs.Steps.{Load, calls-load-shr}
 use Rattle.lent.proofs.Rows.{Engine-row, Engine-vals, Engine-tells, Engine-lawful, Engine-makes, ReadingReply-row, ReadingReply-ty, ReadingReply-vals, ReadingReply-tells, ReadingReply-lawful, ReadingReply-makes}
 use Rattle.engine.specs.Tables.{tables}
 use Rattle.engine.specs.Outcomes.{readingOutcome}
-use Rattle.engine.specs.Contracts.{ReadingEnsures, written}
+use Rattle.engine.specs.Contracts.{ReadingEnsures, placesAfter}
 use Rattle.lent.specs.Lent.{lent}
 use Rattle.lent.specs.Contracts.{ReadingOnLent}
 use Rattle.lent.specs.Copied.{Copied}
@@ -151,10 +152,11 @@ module _ {M : Type 1} (𝓤 : URA M) (H : Heap 𝓤) (A : Atoms 𝓤) (W : Given
         -- the callee
         move ! (56 ∷ []) $ use1 W (raw (Callee 𝓤 H A mem run .pre (to-callee list))) (goes-callee list list-is (g₀ .0)) $
         calls-at ! fm (Callee 𝓤 H A mem run) known-callee (to-callee list) (and-then ! (load ! (from ! (stop !)) (look ! 53 refl)) (and-then ! (load ! (from ! (stop !)) (look ! 33 refl)) (and-then ! (load ! (from ! (stop !)) (look ! 31 refl)) (and-then ! (load ! (from ! (stop !)) (look ! 27 refl)) (and-then ! (load ! (from ! (stop !)) (look ! 23 refl)) (and-then ! (load ! (from ! (stop !)) (look ! 19 refl)) (and-then ! (load ! (from ! (stop !)) (look ! 15 refl)) (and-then ! (load ! (from ! (stop !)) (look ! 11 refl)) (and-then ! (load ! (from ! (stop !)) (look ! 7 refl)) (and-then ! (load ! (from ! (stop !)) (look ! 3 refl)) (and-then ! (load ! (from ! (stop !)) (look ! 35 refl)) (no-more !)))))))))))) (λ u.
-        use1 W (later (some (λ (r : ReadingReply). ((‵ (flft κ₁ q₁) ⊛ (‵ (flft κ₂ q₂) ⊛ (‵ (flft κ₃ q₃) ⊛ (‵ (flft κ₄ q₄) ⊛ (‵ (flft κ₅ q₅) ⊛ (‵ (flft κ₆ q₆) ⊛ (‵ (flft κ₇ q₇) ⊛ ‵ ftrue))))))) ⊛ ‵ (ReadingReply-row .own r (u ∷ []))) ⊛ some (λ (ws : Lasts callee.ended (κ₁, (κ₂, (κ₃, (κ₄, (κ₅, (κ₆, (κ₇, tt))))))) (cs list)). ‵ (lasts callee.ended (κ₁, (κ₂, (κ₃, (κ₄, (κ₅, (κ₆, (κ₇, tt))))))) (cs list) ws) ⊛ raw (fact 𝓤 (Copied (ReadingEnsures value (answers .now) (ws .1 .1 .1 .1 .1 .1 .1 .1 .1 .0)) places engine list (tables (starts .now) (sums .now) (max-starts .now) (max-values .now) (min-starts .now) (min-values .now)) (readingOutcome (r .outcome) (ws .1 .1 .1 .1 .1 .1 .1 .1 .1 .0)) (r .engine) list (tables (ws .1 .1 .1 .0) (ws .1 .1 .1 .1 .0) (ws .1 .1 .1 .1 .1 .0) (ws .1 .1 .1 .1 .1 .1 .0) (ws .1 .1 .1 .1 .1 .1 .1 .0) (ws .1 .1 .1 .1 .1 .1 .1 .1 .0)) × (((ws .1 .1 .1 .1 .1 .1 .1 .1 .1 .0) ≡ written (readingOutcome (r .outcome) (ws .1 .1 .1 .1 .1 .1 .1 .1 .1 .0)) (answers .now)) × (r .engine .registered ≡ engine .registered)))))))) (id⊢ 𝓤 _) $ await ! tt $ pick ! (λ r.
-        split ! $ move ! (1 ∷ []) $ pick ! (λ ws. split ! $ move ! (1 ∷ []) $ heard ! (Copied (ReadingEnsures value (answers .now) (ws .1 .1 .1 .1 .1 .1 .1 .1 .1 .0)) places engine list (tables (starts .now) (sums .now) (max-starts .now) (max-values .now) (min-starts .now) (min-values .now)) (readingOutcome (r .outcome) (ws .1 .1 .1 .1 .1 .1 .1 .1 .1 .0)) (r .engine) list (tables (ws .1 .1 .1 .0) (ws .1 .1 .1 .1 .0) (ws .1 .1 .1 .1 .1 .0) (ws .1 .1 .1 .1 .1 .1 .0) (ws .1 .1 .1 .1 .1 .1 .1 .0) (ws .1 .1 .1 .1 .1 .1 .1 .1 .0)) × (((ws .1 .1 .1 .1 .1 .1 .1 .1 .1 .0) ≡ written (readingOutcome (r .outcome) (ws .1 .1 .1 .1 .1 .1 .1 .1 .1 .0)) (answers .now)) × (r .engine .registered ≡ engine .registered))) (λ e2.
+        use1 W (later (some (λ (r : ReadingReply). ((‵ (flft κ₁ q₁) ⊛ (‵ (flft κ₂ q₂) ⊛ (‵ (flft κ₃ q₃) ⊛ (‵ (flft κ₄ q₄) ⊛ (‵ (flft κ₅ q₅) ⊛ (‵ (flft κ₆ q₆) ⊛ (‵ (flft κ₇ q₇) ⊛ ‵ ftrue))))))) ⊛ ‵ (ReadingReply-row .own r (u ∷ []))) ⊛ some (λ (ws : Lasts callee.ended (κ₁, (κ₂, (κ₃, (κ₄, (κ₅, (κ₆, (κ₇, tt))))))) (cs list)). ‵ (lasts callee.ended (κ₁, (κ₂, (κ₃, (κ₄, (κ₅, (κ₆, (κ₇, tt))))))) (cs list) ws) ⊛ raw (fact 𝓤 (Copied (ReadingEnsures value (answers .now) (ws .1 .1 .1 .1 .1 .1 .1 .1 .1 .0)) places engine list (tables (starts .now) (sums .now) (max-starts .now) (max-values .now) (min-starts .now) (min-values .now)) (readingOutcome (r .outcome) (ws .1 .1 .1 .1 .1 .1 .1 .1 .1 .0)) (r .engine) list (tables (ws .1 .1 .1 .0) (ws .1 .1 .1 .1 .0) (ws .1 .1 .1 .1 .1 .0) (ws .1 .1 .1 .1 .1 .1 .0) (ws .1 .1 .1 .1 .1 .1 .1 .0) (ws .1 .1 .1 .1 .1 .1 .1 .1 .0)) × (((ws .1 .1 .1 .1 .1 .1 .1 .1 .1 .0) ≡ placesAfter (readingOutcome (r .outcome) (ws .1 .1 .1 .1 .1 .1 .1 .1 .1 .0)) (answers .now)) × (r .engine .registered ≡ engine .registered)))))))) (id⊢ 𝓤 _) $ await ! tt $ pick ! (λ r.
+        split ! $ move ! (1 ∷ []) $ pick ! (λ ws. split ! $ move ! (1 ∷ []) $ heard ! (Copied (ReadingEnsures value (answers .now) (ws .1 .1 .1 .1 .1 .1 .1 .1 .1 .0)) places engine list (tables (starts .now) (sums .now) (max-starts .now) (max-values .now) (min-starts .now) (min-values .now)) (readingOutcome (r .outcome) (ws .1 .1 .1 .1 .1 .1 .1 .1 .1 .0)) (r .engine) list (tables (ws .1 .1 .1 .0) (ws .1 .1 .1 .1 .0) (ws .1 .1 .1 .1 .1 .0) (ws .1 .1 .1 .1 .1 .1 .0) (ws .1 .1 .1 .1 .1 .1 .1 .0) (ws .1 .1 .1 .1 .1 .1 .1 .1 .0)) × (((ws .1 .1 .1 .1 .1 .1 .1 .1 .1 .0) ≡ placesAfter (readingOutcome (r .outcome) (ws .1 .1 .1 .1 .1 .1 .1 .1 .1 .0)) (answers .now)) × (r .engine .registered ≡ engine .registered))) (λ e2.
         fsplit ! $ drop ! $ fsplit ! $ drop ! $ fsplit ! $ drop ! $ fsplit ! $ fsplit ! $ move ! (1 ∷ []) $ feqL ! (λ m₁. move ! (1 ∷ []) $ fsplit ! $ fsplit ! $ move ! (1 ∷ []) $ feqL ! (λ m₂. move ! (1 ∷ []) $ fsplit ! $ fsplit ! $ move ! (1 ∷ []) $ feqL ! (λ m₃. move ! (1 ∷ []) $ fsplit ! $ fsplit ! $ move ! (1 ∷ []) $ feqL ! (λ m₄. move ! (1 ∷ []) $ fsplit ! $ fsplit ! $ move ! (1 ∷ []) $ feqL ! (λ m₅. move ! (1 ∷ []) $ fsplit ! $ fsplit ! $ move ! (1 ∷ []) $ feqL ! (λ m₆. move ! (1 ∷ []) $ fsplit ! $ fsplit ! $ move ! (1 ∷ []) $ feqL ! (λ m₇. move ! (1 ∷ []) $ fsplit ! $ drop ! $ drop ! $
-        -- [what says the last list of each, the last one first; the tokens and the result; the token of the records; what they own; the locals; …]
+        -- [what says the last list of each, the last one first; the tokens and the result; the token of the records;
+        -- what they own; the locals; …]
         move ! (7 ∷ []) $ split ! $ move ! (1 ∷ []) $ peeks ! ReadingReply-row (Is ReadingReply-row) (shows 𝓤 H A ReadingReply-row) r (u ∷ []) (λ is′. drop ! $
         move ! (8 ∷ 9 ∷ []) $
         -- [the token of the records; what they own; the other tokens; what says each last list; the locals; …]

@@ -1,4 +1,5 @@
--- `lent::calls::totals` meets its contract: a walk of its MIR, written by tools/walks. The records are copied, and the callee is called on the copy. The records stay lent.
+-- `lent::calls::totals` meets its contract: a walk of its MIR, written by tools/walks. The records are copied, and the
+-- callee is called on the copy. The records stay lent.
 -- Assumes nothing.
 use contract.Running.{givenOf, tables as tables-of, tablesOf}
 use mathlib.Core.Path.{refl, ap}
@@ -140,7 +141,8 @@ module _ {M : Type 1} (𝓤 : URA M) (H : Heap 𝓤) (A : Atoms 𝓤) (W : Given
         use1 W (later (some (λ (r : TotalsReply). ((‵ (flft κ₁ q₁) ⊛ (‵ (flft κ₂ q₂) ⊛ (‵ (flft κ₃ q₃) ⊛ (‵ (flft κ₄ q₄) ⊛ (‵ (flft κ₅ q₅) ⊛ (‵ (flft κ₆ q₆) ⊛ ‵ ftrue)))))) ⊛ ‵ (TotalsReply-row .own r (u ∷ []))) ⊛ some (λ (ws : Lasts callee.ended (κ₁, (κ₂, (κ₃, (κ₄, (κ₅, (κ₆, tt)))))) (cs list)). ‵ (lasts callee.ended (κ₁, (κ₂, (κ₃, (κ₄, (κ₅, (κ₆, tt)))))) (cs list) ws) ⊛ raw (fact 𝓤 (Copied (Ensures totals) places engine list (tables (starts .now) (sums .now) (max-starts .now) (max-values .now) (min-starts .now) (min-values .now)) (totalsOutcome r) engine list (tables (starts .now) (sums .now) (max-starts .now) (max-values .now) (min-starts .now) (min-values .now)))))))) (id⊢ 𝓤 _) $ await ! tt $ pick ! (λ r.
         split ! $ move ! (1 ∷ []) $ pick ! (λ ws. split ! $ move ! (1 ∷ []) $ heard ! (Copied (Ensures totals) places engine list (tables (starts .now) (sums .now) (max-starts .now) (max-values .now) (min-starts .now) (min-values .now)) (totalsOutcome r) engine list (tables (starts .now) (sums .now) (max-starts .now) (max-values .now) (min-starts .now) (min-values .now))) (λ e2.
         fsplit ! $ drop ! $ fsplit ! $ drop ! $ fsplit ! $ drop ! $ fsplit ! $ drop ! $ fsplit ! $ drop ! $ fsplit ! $ drop ! $ fsplit ! $ drop ! $ fsplit ! $ drop ! $ fsplit ! $ drop ! $ drop ! $
-        -- [what says the last list of each, the last one first; the tokens and the result; the token of the records; what they own; the locals; …]
+        -- [what says the last list of each, the last one first; the tokens and the result; the token of the records;
+        -- what they own; the locals; …]
         move ! (0 ∷ []) $ split ! $ move ! (1 ∷ []) $ peeks ! TotalsReply-row (Is TotalsReply-row) (shows 𝓤 H A TotalsReply-row) r (u ∷ []) (λ is′. drop ! $
         move ! (1 ∷ 2 ∷ []) $
         -- [the token of the records; what they own; the other tokens; what says each last list; the locals; …]

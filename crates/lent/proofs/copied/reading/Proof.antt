@@ -1,4 +1,5 @@
--- `reading` on a copy meets its contract: the lent list is too short, or the engine takes the reading, and no record changes. Assumes nothing.
+-- `reading` on a copy meets its contract: the lent list is too short, or the engine takes the reading, and no record
+-- changes. Assumes nothing.
 use mathlib.Core.Path.{refl}
 use mir.Facts.{toZ-ofZ}
 use borrow.Author.Needs.{needs}

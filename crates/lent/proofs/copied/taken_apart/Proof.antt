@@ -1,4 +1,5 @@
--- `taken_apart` meets its contract: the fields of the engine's reply, and how many records `records_written` says. Assumes nothing.
+-- `taken_apart` meets its contract: the fields of the engine's reply, and how many records `records_written` says.
+-- Assumes nothing.
 use mathlib.Core.Path.{ap}
 use Prim.Native.Nat.{ℕ}
 use borrow.Author.Needs.{needs}

@@ -1,5 +1,8 @@
--- `fields::next_field` meets its contract: a walk of its MIR, by hand. A `Fields` that one call returns is held in a local and passed to the next. All that the proof knows of `fields_from` and of `next` is that each meets its contract.
--- The machine value that `fields_from` returns is stored and passed on as it is. In a local of a body MIR erases the lifetime of the struct's type, so the value is shown to have the type at `erased`: what the struct owns does not say the lifetime's name.
+-- `fields::next_field` meets its contract: a walk of its MIR, by hand. A `Fields` that one call returns is held in a
+-- local and passed to the next. All that the proof knows of `fields_from` and of `next` is that each meets its
+-- contract. The machine value that `fields_from` returns is stored and passed on as it is. In a local of a body MIR
+-- erases the lifetime of the struct's type, so the value is shown to have the type at `erased`: what the struct owns
+-- does not say the lifetime's name.
 -- Assumes nothing.
 use denote.Plain.{uint-vals, uint-tells, uint-makes}
 use mathlib.Core.Path.{_≡_, refl, ap, _∙_}

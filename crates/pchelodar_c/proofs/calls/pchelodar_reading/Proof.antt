@@ -1,11 +1,12 @@
--- `pchelodar_reading` meets its contract: there is no room, or the engine's call is made on what the numbers are read as. Assumes nothing.
+-- `pchelodar_reading` meets its contract: there is no room, or the engine's call is made on what the numbers are read
+-- as. Assumes nothing.
 use mathlib.Core.Path.{_≡_, sym, ap, _∙_}
 use mathlib.Core.Bool.{true, false}
 use borrow.Author.Needs.{needs}
 use lib.ListN.{length}
 use mir.Facts.{toZ-ofZ}
 use Rattle.pchelodar_c.specs.Written.{stateOf, registeredIn}
-use Rattle.pchelodar_c.specs.Held.{roomFor}
+use Rattle.pchelodar_c.specs.Slices.{roomFor}
 use Rattle.pchelodar_c.proofs.Calling.{room-state, room-list, not-true, not-false, no-room-reading, reading-made-of}
 use Rattle.pchelodar_c.proofs.calls.pchelodar_reading.Statement.{statement}
 use Rattle.pchelodar_c.proofs.calls.pchelodar_reading.Tie as tie

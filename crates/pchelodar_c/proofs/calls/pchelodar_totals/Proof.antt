@@ -1,4 +1,5 @@
--- `pchelodar_totals` meets its contract: there is no room, or the engine's call is made on what the numbers are read as. Assumes nothing.
+-- `pchelodar_totals` meets its contract: there is no room, or the engine's call is made on what the numbers are read
+-- as. Assumes nothing.
 use Prim.Native.Nat.{ℕ}
 use mathlib.Core.Path.{_≡_, sym, ap, _∙_}
 use mathlib.Core.Bool.{true, false}
@@ -7,7 +8,7 @@ use lib.ListN.{length}
 use Rattle.engine.specs.declared.calls.TotalsReply.{TotalsReply}
 use Rattle.engine.specs.declared.calls.TotalsReply.the-variants as totals
 use Rattle.pchelodar_c.specs.Written.{stateOf, registeredIn, listOf}
-use Rattle.pchelodar_c.specs.Held.{roomFor}
+use Rattle.pchelodar_c.specs.Slices.{roomFor}
 use Rattle.pchelodar_c.proofs.Calling.{room-state, room-list, not-true, not-false, no-room-totals, totals-made, untold, told}
 use Rattle.pchelodar_c.proofs.calls.pchelodar_totals.Statement.{statement}
 use Rattle.pchelodar_c.proofs.calls.pchelodar_totals.Tie as tie

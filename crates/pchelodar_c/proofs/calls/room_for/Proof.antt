@@ -1,6 +1,6 @@
 -- `room_for` meets its contract. Assumes nothing.
 use borrow.Author.Needs.{needs}
-use Rattle.pchelodar_c.specs.Held.{roomFor}
+use Rattle.pchelodar_c.specs.Slices.{roomFor}
 use Rattle.pchelodar_c.proofs.calls.room_for.Statement.{statement}
 use Rattle.pchelodar_c.proofs.calls.room_for.Tie as tie
 use Rattle.pchelodar_c.proofs.calls.room_for.Reads as reads

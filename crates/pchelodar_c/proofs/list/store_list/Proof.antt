@@ -1,4 +1,5 @@
--- `store_list` meets its contract. The loop's invariant: the first i records are written, the rest is as it was. Assumes nothing.
+-- `store_list` meets its contract. The loop's invariant: the first i records are written, the rest is as it was.
+-- Assumes nothing.
 use Prim.Native.Nat.{ℕ, _-_, _*_, _≤_}
 use mathlib.Core.Path.{_≡_, refl, sym, ap, _∙_, subst}
 use mathlib.Core.List.{List, _++_}

@@ -1,4 +1,5 @@
--- `store_numbers` meets its contract. The loop's invariant: the first i numbers are written, the rest is as it was. Assumes nothing.
+-- `store_numbers` meets its contract. The loop's invariant: the first i numbers are written, the rest is as it was.
+-- Assumes nothing.
 use Prim.Native.Nat.{_-_, _≤_}
 use mathlib.Core.Path.{_≡_, refl, ap, _∙_}
 use mathlib.Core.List.{_++_}

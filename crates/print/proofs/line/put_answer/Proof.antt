@@ -3,7 +3,7 @@ use native.Mathlib.Omega.{arith}
 use borrow.Author.Needs.{needs}
 use mir.Facts.{toZ-ofZ}
 use Rattle.print.specs.Lines.{answerLine}
-use Rattle.print.proofs.Appending.{appended-then}
+use Rattle.print.proofs.Putting.{put-then}
 use Rattle.print.proofs.line.put_answer.Statement.{statement}
 use Rattle.print.proofs.line.put_answer.Tie as tie
 
@@ -41,7 +41,7 @@ returns c =
     let number = kind .before .before .before .before in
     let n = number .before .before .before .before in
     let letter = n .before .before .before .before in
-    (appended-then (letter .put-byte .ensures) (appended-then (n .put-field .ensures .0) (appended-then (number .put-field2 .ensures .0) (appended-then (kind .put-field3 .ensures .0) (appended-then (count .put-field4 .ensures .0) (appended-then (rw (toZ-ofZ (letter .before .before .before .fits .value)) at (value .put-signed-field .ensures .0)) (end .put-byte2 .ensures)))))), omega arith)
+    (put-then (letter .put-byte .ensures) (put-then (n .put-field .ensures .0) (put-then (number .put-field2 .ensures .0) (put-then (kind .put-field3 .ensures .0) (put-then (count .put-field4 .ensures .0) (put-then (rw (toZ-ofZ (letter .before .before .before .fits .value)) at (value .put-signed-field .ensures .0)) (end .put-byte2 .ensures)))))), omega arith)
 
 pub put-answer-spec : {M : Type 1} → statement M
 put-answer-spec =

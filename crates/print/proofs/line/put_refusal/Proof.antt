@@ -2,7 +2,7 @@
 use native.Mathlib.Omega.{arith}
 use borrow.Author.Needs.{needs}
 use Rattle.print.specs.Lines.{refusalLine}
-use Rattle.print.proofs.Appending.{appended-then}
+use Rattle.print.proofs.Putting.{put-then}
 use Rattle.print.proofs.line.put_refusal.Statement.{statement}
 use Rattle.print.proofs.line.put_refusal.Tie as tie
 
@@ -28,7 +28,7 @@ returns c =
     let refusal = end .before .before .before .before in
     let line = refusal .before .before .before .before in
     let letter = line .before .before .before .before in
-    (appended-then (letter .put-byte .ensures) (appended-then (line .put-field .ensures .0) (appended-then (refusal .put-field2 .ensures .0) (end .put-byte2 .ensures))), omega arith)
+    (put-then (letter .put-byte .ensures) (put-then (line .put-field .ensures .0) (put-then (refusal .put-field2 .ensures .0) (end .put-byte2 .ensures))), omega arith)
 
 pub put-refusal-spec : {M : Type 1} → statement M
 put-refusal-spec =

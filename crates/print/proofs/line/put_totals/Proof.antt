@@ -2,7 +2,7 @@
 use native.Mathlib.Omega.{arith}
 use borrow.Author.Needs.{needs}
 use Rattle.print.specs.Lines.{totalsLine}
-use Rattle.print.proofs.Appending.{appended-then}
+use Rattle.print.proofs.Putting.{put-then}
 use Rattle.print.proofs.line.put_totals.Statement.{statement}
 use Rattle.print.proofs.line.put_totals.Tie as tie
 
@@ -36,7 +36,7 @@ returns c =
     let closed = maxima .before .before .before .before in
     let n = closed .before .before .before .before in
     let letter = n .before .before .before .before in
-    (appended-then (letter .put-byte .ensures) (appended-then (n .put-field .ensures .0) (appended-then (closed .put-field2 .ensures .0) (appended-then (maxima .put-field3 .ensures .0) (appended-then (minima .put-field4 .ensures .0) (end .put-byte2 .ensures))))), omega arith)
+    (put-then (letter .put-byte .ensures) (put-then (n .put-field .ensures .0) (put-then (closed .put-field2 .ensures .0) (put-then (maxima .put-field3 .ensures .0) (put-then (minima .put-field4 .ensures .0) (end .put-byte2 .ensures))))), omega arith)
 
 pub put-totals-spec : {M : Type 1} → statement M
 put-totals-spec =

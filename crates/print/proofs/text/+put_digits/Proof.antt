@@ -5,7 +5,7 @@ use Prim.Native.Nat.{ℕ, _/_, _<_}
 use native.Mathlib.Omega.{arith}
 use lib.ListN.{length}
 use Rattle.print.specs.Decimal.{decimal}
-use Rattle.print.proofs.Appending.{appended-then, appended-as}
+use Rattle.print.proofs.Putting.{put-then, put-as}
 use Rattle.print.proofs.Digits.{decimal-small, decimal-large, decimal-longer}
 use borrow.Fn.Kinds.{In}
 use borrow.Fn.PlainCycle.{Measures, is, falls, and}
@@ -101,7 +101,7 @@ put-digits-returns : (t : ℕ) → put-digits-lts.Need-returns (
   put-digits.Post,
 ) (put-digits-at t) put-digits.Post
 put-digits-returns t c =
-    appended-as
+    put-as
     (ap (λ g. g ∷ []) (c .before .before .before .digit-byte .ensures) ∙ sym (decimal-small _ (omega arith)))
     (c .before .before .put-byte .ensures)
 
@@ -127,9 +127,9 @@ put-digits-returns-2 t c =
     let last = c .before .before in
     let first = last .before .before .before .before .before in
     let n = first .before .before .before .before .args .n in
-    appended-as
+    put-as
     (ap (λ g. decimal (n / 10) ++ (g ∷ [])) (last .before .digit-byte2 .ensures) ∙ sym (decimal-large n (omega arith)))
-    (appended-then (first .put-digits .ensures) (last .put-byte2 .ensures))
+    (put-then (first .put-digits .ensures) (last .put-byte2 .ensures))
 
 pub +put-digits-spec : {M : Type 1} → statement M
 +put-digits-spec = close μ-put-digits λ t. put-digits-lts.spec (

@@ -1,6 +1,6 @@
 -- `put_byte` meets its contract: one place is written. Assumes nothing.
 use borrow.Author.Needs.{needs}
-use Rattle.print.proofs.Appending.{appended-byte}
+use Rattle.print.proofs.Putting.{put-one}
 use Rattle.print.proofs.text.put_byte.Statement.{statement}
 use Rattle.print.proofs.text.put_byte.Tie as tie
 
@@ -14,7 +14,7 @@ same-length : tie.Need-same-length
 same-length c = search needs
 
 returns : tie.Need-returns
-returns c = appended-byte _ _ _ (c .pre)
+returns c = put-one _ _ _ (c .pre)
 
 pub put-byte-spec : {M : Type 1} → statement M
 put-byte-spec = tie.close (tie.spec slice-write-out add-result same-length returns)

@@ -4,7 +4,7 @@ use native.Mathlib.Omega.{arith}
 use borrow.Author.Needs.{needs}
 use lib.ListN.{length}
 use Rattle.print.specs.Decimal.{decimal}
-use Rattle.print.proofs.Appending.{appended-then}
+use Rattle.print.proofs.Putting.{put-then}
 use Rattle.print.proofs.Digits.{decimal-twenty}
 use Rattle.print.proofs.text.put_field.Statement.{statement}
 use Rattle.print.proofs.text.put_field.Tie as tie
@@ -27,7 +27,7 @@ returns : tie.Need-returns
 returns c =
     let digits = c .before .before in
     let tab = digits .before .before .before .before in (
-      appended-then (tab .put-byte .ensures) (digits .put-digits .ensures),
+      put-then (tab .put-byte .ensures) (digits .put-digits .ensures),
       omega (arith, short (tab .before .before .before), tab .put-byte .ensures .ends, digits .put-digits .ensures .ends),
     )
 

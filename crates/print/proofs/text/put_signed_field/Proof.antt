@@ -9,7 +9,7 @@ use lib.ListN.{length}
 use lib.Signed.{ltZ}
 use mir.Facts.{toZ-ofZ}
 use Rattle.print.specs.Decimal.{decimal, decimalℤ}
-use Rattle.print.proofs.Appending.{appended-then, appended-as}
+use Rattle.print.proofs.Putting.{put-then, put-as}
 use Rattle.print.proofs.Digits.{decimal-twenty, minus-text, plain-text}
 use Rattle.print.proofs.text.put_signed_field.Statement.{statement}
 use Rattle.print.proofs.text.put_signed_field.Tie as tie
@@ -73,9 +73,9 @@ returns c =
     let digits = c .before .before in
     let sign = digits .before .before .before .before in
     let tab = sign .before .before .before .before in (
-      appended-as
+      put-as
           (ap (λ t. 9 ∷ t) (minus (tab .before .before)))
-          (appended-then (tab .put-byte .ensures) (appended-then (sign .put-byte2 .ensures) (digits .put-digits .ensures))),
+          (put-then (tab .put-byte .ensures) (put-then (sign .put-byte2 .ensures) (digits .put-digits .ensures))),
       omega (arith, short (tab .before .before .before), tab .put-byte .ensures .ends, sign .put-byte2 .ensures .ends, digits .put-digits .ensures .ends),
     )
 
@@ -94,7 +94,7 @@ returns-2 : tie.Need-returns-2
 returns-2 c =
     let digits = c .before .before in
     let tab = digits .before .before .before .before in (
-      appended-as (ap (λ t. 9 ∷ t) (plain (tab .before .before))) (appended-then (tab .put-byte3 .ensures) (digits .put-digits2 .ensures)),
+      put-as (ap (λ t. 9 ∷ t) (plain (tab .before .before))) (put-then (tab .put-byte3 .ensures) (digits .put-digits2 .ensures)),
       omega (arith, short (tab .before .before .before), tab .put-byte3 .ensures .ends, digits .put-digits2 .ensures .ends),
     )
 

@@ -1,5 +1,7 @@
--- `copy::load` meets its contract: a walk of its MIR, by hand. The slice is looked into and the local list is opened into its row of records once, before the loop; each turn copies one record out of the slice's row and stores it in place in the local's row, which is shut after the loop.
--- After i turns the local's row is the first i of the slice's records, padded: `copied i`.
+-- `copy::load` meets its contract: a walk of its MIR, by hand. The slice is looked into and the local list is opened
+-- into its row of records once, before the loop; each turn copies one record out of the slice's row and stores it in
+-- place in the local's row, which is shut after the loop. After i turns the local's row is the first i of the slice's
+-- records, padded: `copied i`.
 -- Assumes nothing.
 use mathlib.Core.Path.{_≡_, refl, sym, _∙_, ap, subst}
 use Prim.Native.Nat.{ℕ, suc, _-_, _<_, _≤_, _^_, min}
@@ -186,7 +188,8 @@ module _ {M : Type 1} (𝓤 : URA M) (H : Heap 𝓤) (A : Atoms 𝓤) (W : Given
           within : i < length (copied i)
           within = subst (λ (k : ℕ). i < k) (sym (padded-length recordLimit (take i ys))) early
 
-      -- the turn that leaves the loop, and the rest of the body: the local's row is its cell again, and the slice is shut
+      -- the turn that leaves the loop, and the rest of the body: the local's row is its cell again, and the slice is
+      -- shut
       ends : (i : ℕ) (le : i ≤ m) → i ≡ m → ltb i m ≡ false → ent 𝓤 (⋆ 𝓤 H A (Inv (i, le))) (Wp 𝓤 H (𝓣 .C) (𝓣 .Λ) En pieces.turn-1 (afterTurn 𝓤 H (Below 𝓤 H A less Inv (i, le)) Left))
       unfolding afterTurn
       ends i le all e =
@@ -225,7 +228,8 @@ module _ {M : Type 1} (𝓤 : URA M) (H : Heap 𝓤) (A : Atoms 𝓤) (W : Given
         -- the slice is looked into, once
         move ! (29 ∷ []) $ fsplit ! $ fsplit ! $ move ! (1 ∷ []) $ fsplit ! $ move ! (32 ∷ []) $ split ! $ move ! (3 ∷ 0 ∷ []) $
         looks-slice ! tt Q (Is Q) (shows 𝓤 H A Q) q-vals q-tells (q-copy 𝓤 H A W) ys b o (λ q′.
-        -- [the row; the open borrow; the fractured one; true; res; the slice's fact; true; _13; …]. The local list is opened, once
+        -- [the row; the open borrow; the fractured one; true; res; the slice's fact; true; _13; …]. The local list is
+        -- opened, once
         move ! (27 ∷ []) $ use1 W (‵ (row Q fullShare l l₃ 0)) (local-out 𝓤 H A W l₃ l is′) $ rewrite ! 0 (λ (t : List Query). ‵ (row Q fullShare t l₃ 0)) (e′ ∙ sym (padded-none recordLimit)) refl $
         keep ! (1 ∷ 0 ∷ 2 ∷ 3 ∷ 5 ∷ 6 ∷ 8 ∷ 9 ∷ 10 ∷ 11 ∷ 12 ∷ 13 ∷ 14 ∷ 15 ∷ 16 ∷ 17 ∷ 18 ∷ 19 ∷ 20 ∷ 21 ∷ 22 ∷ 23 ∷ 24 ∷ 25 ∷ 26 ∷ 27 ∷ 28 ∷ 29 ∷ 30 ∷ 31 ∷ 32 ∷ 33 ∷ 34 ∷ []) $
         first ! $ blocks ! $ loops ! 𝓣 (less q′ l₀ l₁ l₂ l₃ l₄ l₅ l₆ l₇ l₈ l₉ l₁₀ l₁₁ l₁₂ l₁₃) (InvImage·wf (λ t. m - t .0) (Nat·lt-wfRel .wf)) (Inv q′ l₀ l₁ l₂ l₃ l₄ l₅ l₆ l₇ l₈ l₉ l₁₀ l₁₁ l₁₂ l₁₃)

@@ -1,5 +1,7 @@
--- `copy::store` meets its contract: a walk of its MIR, by hand. The borrow is opened once, before the loop; each turn calls `record_of`, takes one record out of the row, and puts the new one in its place; the borrow is closed after the loop.
--- After i turns the slice's records are what they were, with the first i of the list in their places: `written i`.
+-- `copy::store` meets its contract: a walk of its MIR, by hand. The borrow is opened once, before the loop; each turn
+-- calls `record_of`, takes one record out of the row, and puts the new one in its place; the borrow is closed after the
+-- loop. After i turns the slice's records are what they were, with the first i of the list in their places: `written
+-- i`.
 -- Assumes nothing.
 use mathlib.Core.Path.{_≡_, refl, sym, _∙_, ap, subst}
 use Prim.Native.Nat.{ℕ, suc, _-_, _<_, _≤_, _^_, min}

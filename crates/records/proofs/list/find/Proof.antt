@@ -1,4 +1,5 @@
--- `records::list::find` meets its contract: a walk of its MIR, written by tools/walks. The records are copied, and the callee is called on the copy. The records stay lent.
+-- `records::list::find` meets its contract: a walk of its MIR, written by tools/walks. The records are copied, and the
+-- callee is called on the copy. The records stay lent.
 -- Assumes nothing.
 use contract.Running.{givenOf, tables as tables-of, tablesOf}
 use mathlib.Core.Path.{_≡_, refl}

@@ -1,4 +1,5 @@
--- `broken` meets its contract: where the checks of the fields pass, what is left is the test of the origin. Assumes nothing.
+-- `broken` meets its contract: where the checks of the fields pass, what is left is the test of the origin. Assumes
+-- nothing.
 use borrow.Author.Needs.{needs}
 use Rattle.registry.proofs.Damage.{passed-broken, refused-broken}
 use Rattle.registry.proofs.checks.broken.Statement.{statement}

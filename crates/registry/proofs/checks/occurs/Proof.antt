@@ -1,4 +1,5 @@
--- `occurs` meets its contract. The loop's invariant: the number was found, or stands after i at a place from j on, where it does after i.
+-- `occurs` meets its contract. The loop's invariant: the number was found, or stands after i at a place from j on,
+-- where it does after i.
 -- Assumes nothing.
 use mathlib.Core.Path.{_≡_, sym, _∙_}
 use mathlib.Core.Bool.{_||_}

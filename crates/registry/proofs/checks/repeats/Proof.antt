@@ -1,4 +1,5 @@
--- `repeats` meets its contract. The loop's invariant: a repeated number was found, or there is one among those from i on, where there is one.
+-- `repeats` meets its contract. The loop's invariant: a repeated number was found, or there is one among those from i
+-- on, where there is one.
 -- Assumes nothing.
 use mathlib.Core.Path.{_≡_, refl, sym, ap, _∙_}
 use mathlib.Core.Bool.{_||_}

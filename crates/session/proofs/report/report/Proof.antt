@@ -1,7 +1,7 @@
 -- `report` meets its contract: the answers, or the refusal. Assumes nothing.
 use native.Mathlib.Omega.{arith}
 use borrow.Author.Needs.{needs}
-use Rattle.print.proofs.Appending.{appended-as}
+use Rattle.print.proofs.Putting.{put-as}
 use Rattle.session.proofs.Reporting.{printed-answers, printed-refusal}
 use Rattle.session.proofs.report.report.Statement.{statement}
 use Rattle.session.proofs.report.report.Tie as tie
@@ -30,7 +30,7 @@ same-length c = search needs
 returns : tie.Need-returns
 returns c =
     let put = c .before .before .report-answers .ensures in
-    (appended-as (printed-answers _ (c .before .before .before .before .before .before .before .before .args .line) _ _ (c .before .before .before .before .before .outcome .given .1)) (put .0), put .1)
+    (put-as (printed-answers _ (c .before .before .before .before .before .before .before .before .args .line) _ _ (c .before .before .before .before .before .outcome .given .1)) (put .0), put .1)
 
 same-length-2 : tie.Need-same-length-2
 same-length-2 c = search needs
@@ -39,7 +39,7 @@ returns-2 : tie.Need-returns-2
 returns-2 c =
     let s = c .before .before .before .before .before .before .before .before .before .args in
     let put = c .before .before .put-refusal .ensures in
-    (appended-as (printed-refusal (s .n) _ _ (s .answers .now) (c .before .before .before .before .before .before .outcome2 .given .1) (c .before .before .before .number .ensures)) (put .0), omega (arith, put .1))
+    (put-as (printed-refusal (s .n) _ _ (s .answers .now) (c .before .before .before .before .before .before .outcome2 .given .1) (c .before .before .before .number .ensures)) (put .0), omega (arith, put .1))
 
 pub report-spec : {M : Type 1} → statement M
 report-spec =

@@ -3,22 +3,22 @@ use mathlib.Core.Path.{_≡_, ap}
 use Prim.Native.Nat.{_+_, _*_, _-_, _≤_}
 use native.Mathlib.Omega.{arith}
 use Rattle.engine.specs.Answers.{answersIn}
-use Rattle.print.specs.Appended.{Appended}
+use Rattle.print.specs.Put.{Put}
 use Rattle.print.specs.Lines.{answerRoom}
-use Rattle.print.proofs.Appending.{appended-none, appended-as}
+use Rattle.print.proofs.Putting.{put-none, put-as}
 use Rattle.session.specs.Meaning.{answerTexts}
 use Rattle.session.proofs.Reporting.{answers-printed}
 use Rattle.session.proofs.report.report_answers.Statement.{statement}
 use Rattle.session.proofs.report.report_answers.Tie as tie
 
 abbrev Inv-loop : tie.InvT-loop
-Inv-loop answers k n out₀ at next₀ i₀ out next i = (i ≤ k) × ((next ≤ at + answerRoom * i) × Appended out₀ at (answerTexts n (answersIn i answers)) out next)
+Inv-loop answers k n out₀ at next₀ i₀ out next i = (i ≤ k) × ((next ≤ at + answerRoom * i) × Put out₀ at (answerTexts n (answersIn i answers)) out next)
 
 abbrev μ-loop : tie.MeasureT-loop
 μ-loop answers k n out₀ at next₀ i₀ out next i = k - i
 
 loop-holds : tie.Need-loop-holds Inv-loop μ-loop
-loop-holds c = (omega arith, (omega arith, appended-none _ _))
+loop-holds c = (omega arith, (omega arith, put-none _ _))
 
 report-answer-requires : tie.Need-report-answer-requires Inv-loop μ-loop
 report-answer-requires c κs = omega arith
@@ -42,7 +42,7 @@ returns : tie.Need-returns Inv-loop μ-loop
 returns c =
     let s = c .before .before .before .args in
     let q : c .before .loop .i ≡ s .k = omega arith in
-    (appended-as (ap (λ i. answerTexts (s .n) (answersIn i (s .answers .now))) q) (c .before .loop .inv .1 .1), omega arith)
+    (put-as (ap (λ i. answerTexts (s .n) (answersIn i (s .answers .now))) q) (c .before .loop .inv .1 .1), omega arith)
 
 pub report-answers-spec : {M : Type 1} → statement M
 report-answers-spec =

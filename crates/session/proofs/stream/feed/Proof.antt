@@ -1,4 +1,5 @@
--- `feed` meets its contract: nothing where the engine refuses every call, and else one line after the other. Assumes nothing.
+-- `feed` meets its contract: nothing where the engine refuses every call, and else one line after the other. Assumes
+-- nothing.
 use Rattle.session.proofs.Refusing.{not-fed, fed-lines}
 use borrow.Author.Needs.{needs}
 use Rattle.session.proofs.stream.feed.Statement.{statement}

@@ -1,4 +1,5 @@
--- `feed_lines` meets its contract: what was taken so far is the session's bytes, one after the other. The measure is how many bytes are left. Assumes nothing.
+-- `feed_lines` meets its contract: what was taken so far is the session's bytes, one after the other. The measure is
+-- how many bytes are left. Assumes nothing.
 use Rattle.session.proofs.Finishing.{goes-on, stopped}
 use Rattle.session.proofs.Feeding.{Inside, streams-none, streams-next}
 use Rattle.session.specs.Contracts.{held}

@@ -1,4 +1,5 @@
--- `finish` meets its contract: the last line if there is one, then the totals; nothing where there is no room, or the engine refuses every call. Assumes nothing.
+-- `finish` meets its contract: the last line if there is one, then the totals; nothing where there is no room, or the
+-- engine refuses every call. Assumes nothing.
 use mathlib.Core.Path.{sym, _∙_}
 use mathlib.Core.Bool.{true≢false}
 use Rattle.session.proofs.Finishing.{finishes, no-finish}

@@ -1,4 +1,5 @@
--- `check_fields` meets its contract: each answer is the first check that applies, given the tests passed before it. Assumes nothing.
+-- `check_fields` meets its contract: each answer is the first check that applies, given the tests passed before it.
+-- Assumes nothing.
 use mathlib.Core.Path.{sym, _∙_}
 use borrow.Author.Needs.{needs}
 use borrow.Author.Tests.{not-true, not-false}

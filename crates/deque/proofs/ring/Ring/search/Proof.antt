@@ -1,4 +1,5 @@
--- `Ring::search` meets its contract: the entries at the guess show it right, or the binary search finds the place. Assumes nothing.
+-- `Ring::search` meets its contract: the entries at the guess show it right, or the binary search finds the place.
+-- Assumes nothing.
 use borrow.Author.Needs.{needs}
 use Rattle.deque.specs.Rings.{place, startAt}
 use Rattle.deque.proofs.Rings.{count-between}

@@ -1,4 +1,5 @@
--- `Aggregate::extended` meets its contract: the sum fits, and each extreme is the greater by its order. Assumes nothing.
+-- `Aggregate::extended` meets its contract: the sum fits, and each extreme is the greater by its order. Assumes
+-- nothing.
 use mathlib.Core.Path.{_≡_, ap₂, _∙_}
 use native.Mathlib.Omega.{arith}
 use borrow.Author.Needs.{needs}

@@ -1,4 +1,5 @@
--- `State::answer_due` meets its contract. The loop's invariant: the due queries before i are answered, and those from i on are to come.
+-- `State::answer_due` meets its contract. The loop's invariant: the due queries before i are answered, and those from i
+-- on are to come.
 -- Assumes nothing.
 use Prim.Native.Nat.{ℕ, _+_, _-_, _≤_, _<_}
 use mathlib.Core.Path.{_≡_, sym, subst, _∙_}

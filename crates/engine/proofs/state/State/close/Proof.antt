@@ -1,4 +1,5 @@
--- `State::close` meets its contract: the three rings close one after the other, each on its own tables. Assumes nothing.
+-- `State::close` meets its contract: the three rings close one after the other, each on its own tables. Assumes
+-- nothing.
 use Prim.Native.Nat.{_<_}
 use mathlib.Core.Path.{refl, sym, subst}
 use mir.Syntax.{w32}

@@ -1,4 +1,5 @@
--- `State::close_open` meets its contract: an open partial that holds a reading closes, and otherwise nothing changes. Assumes nothing.
+-- `State::close_open` meets its contract: an open partial that holds a reading closes, and otherwise nothing changes.
+-- Assumes nothing.
 use mathlib.Core.Path.{refl}
 use borrow.Author.Needs.{needs}
 use Rattle.engine.proofs.Closings.{nothing-closed, empty-closed, holding-closed}

@@ -1,4 +1,5 @@
--- `Queries::due_count` meets its contract. The loop's invariant: what is counted, and the due queries from i on, are all that are due.
+-- `Queries::due_count` meets its contract. The loop's invariant: what is counted, and the due queries from i on, are
+-- all that are due.
 -- Assumes nothing.
 use mathlib.Core.Path.{_≡_, sym, subst, _∙_}
 use mathlib.Core.Logic.{⊎-elim}

@@ -1,5 +1,5 @@
--- `Queries::horizon` meets its contract. The loop's invariant: the lesser of the least start so far and the horizon of the queries from i on is
--- the horizon of all.
+-- `Queries::horizon` meets its contract. The loop's invariant: the lesser of the least start so far and the horizon of
+-- the queries from i on is the horizon of all.
 -- Assumes nothing.
 use mathlib.Core.Path.{_≡_, sym, subst, _∙_}
 use mathlib.Core.Logic.{⊎-elim}

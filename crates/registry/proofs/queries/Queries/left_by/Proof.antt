@@ -1,4 +1,5 @@
--- `Queries::left_by` meets its contract. The loop's invariant: what is kept, and what is to be kept from i on, are all that stay.
+-- `Queries::left_by` meets its contract. The loop's invariant: what is kept, and what is to be kept from i on, are all
+-- that stay.
 -- Assumes nothing.
 use mathlib.Core.Path.{_≡_, sym, ap, subst}
 use mathlib.Core.Bool.{Bool, not}

@@ -1,4 +1,5 @@
--- `Queries::scan` meets its contract. The loop's invariant: what was seen, and the look at the queries from i on after it, is the look at all. Assumes nothing.
+-- `Queries::scan` meets its contract. The loop's invariant: what was seen, and the look at the queries from i on after
+-- it, is the look at all. Assumes nothing.
 use mathlib.Core.Path.{_≡_, sym, ap, _∙_}
 use mathlib.Core.Bool.{false}
 use Prim.Native.Nat.{_-_, _≤_}

@@ -1,4 +1,5 @@
--- `Query::edge` meets its contract: the phase's remainder decides, and with the range added it stays small. Assumes nothing.
+-- `Query::edge` meets its contract: the phase's remainder decides, and with the range added it stays small. Assumes
+-- nothing.
 use mathlib.Core.Path.{sym}
 use native.Mathlib.Omega.{arith}
 use native.Mathlib.Nat.{mod-lt}

@@ -7,13 +7,13 @@ use native.Mathlib.Omega.{arith}
 use mathlib.Core.List.{List, [], _∷_, _++_, append-assoc, append-nil}
 use lib.ListN.{length, take, drop, set, length-append, length-set}
 use lib.Seq.{take-suc-set, drop-set-lt, drop-drop}
-use Rattle.print.specs.Appended.{Appended, AppendedSome}
+use Rattle.print.specs.Put.{Put, PutSome}
 
-pub appended-none : (l : List ℕ) (at : ℕ) → Appended l at [] l at
-appended-none l at = record { ends = omega arith; asLong = refl; text = sym (append-nil (take at l)); beyond = refl }
+pub put-none : (l : List ℕ) (at : ℕ) → Put l at [] l at
+put-none l at = record { ends = omega arith; asLong = refl; text = sym (append-nil (take at l)); beyond = refl }
 
-pub appended-byte : (l : List ℕ) (at b : ℕ) → at < length l → Appended l at (b ∷ []) (set l at b) (at + 1)
-appended-byte l at b h =
+pub put-one : (l : List ℕ) (at b : ℕ) → at < length l → Put l at (b ∷ []) (set l at b) (at + 1)
+put-one l at b h =
     record {
       ends = refl;
       asLong = length-set l at b;
@@ -27,8 +27,8 @@ alike-later m l b c h e =
     let q : c ≡ b + (c - b) = omega arith in
     rw q (sym (drop-drop (c - b) b m) ∙ ap (drop (c - b)) e ∙ drop-drop (c - b) b l)
 
-pub appended-then : {l m n xs ys : List ℕ} {a b c : ℕ} → Appended l a xs m b → Appended m b ys n c → Appended l a (xs ++ ys) n c
-appended-then {l} {m} {n} {xs} {ys} {a} {b} {c} p q =
+pub put-then : {l m n xs ys : List ℕ} {a b c : ℕ} → Put l a xs m b → Put m b ys n c → Put l a (xs ++ ys) n c
+put-then {l} {m} {n} {xs} {ys} {a} {b} {c} p q =
     record {
       ends = omega (arith, p .ends, q .ends, length-append xs ys);
       asLong = q .asLong ∙ p .asLong;
@@ -37,13 +37,13 @@ appended-then {l} {m} {n} {xs} {ys} {a} {b} {c} p q =
     }
 
 -- the same bytes, said otherwise
-pub appended-as : {l n xs ys : List ℕ} {a c : ℕ} → xs ≡ ys → Appended l a xs n c → Appended l a ys n c
-appended-as e p = rw e at p
+pub put-as : {l n xs ys : List ℕ} {a c : ℕ} → xs ≡ ys → Put l a xs n c → Put l a ys n c
+put-as e p = rw e at p
 
 -- ---- whatever the bytes are
 
-pub appends-none : (l : List ℕ) (at : ℕ) → AppendedSome l at l at
-appends-none l at = record { bytes = []; appended = appended-none l at }
+pub puts-none : (l : List ℕ) (at : ℕ) → PutSome l at l at
+puts-none l at = record { bytes = []; put = put-none l at }
 
-pub appends-then : {l m n : List ℕ} {a b c : ℕ} → AppendedSome l a m b → AppendedSome m b n c → AppendedSome l a n c
-appends-then p q = record { bytes = p .bytes ++ q .bytes; appended = appended-then (p .appended) (q .appended) }
+pub puts-then : {l m n : List ℕ} {a b c : ℕ} → PutSome l a m b → PutSome m b n c → PutSome l a n c
+puts-then p q = record { bytes = p .bytes ++ q .bytes; put = put-then (p .put) (q .put) }

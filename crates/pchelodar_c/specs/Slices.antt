@@ -11,26 +11,26 @@ use Rattle.engine.specs.Machine.{Machine, machine}
 use Rattle.pchelodar_c.specs.Written.{stateNumbers, stateOf, registeredIn, listNumbers, listOf}
 
 -- the numbers of the state, those of the query list, and the six tables
-pub record Held : Type 0 where
+pub record Slices : Type 0 where
   pub state : List ℕ
   pub queries : List ℕ
   pub tables : Tables
 
 -- the three, in this order
-abbrev pub held : List ℕ → List ℕ → Tables → Held
-held w ns t = record { state = w; queries = ns; tables = t }
+abbrev pub slices : List ℕ → List ℕ → Tables → Slices
+slices w ns t = record { state = w; queries = ns; tables = t }
 
 -- there are places for the numbers of a state and of a query list
 unfoldable pub roomFor : ℕ → ℕ → Bool
 roomFor state queries = leb stateNumbers state && leb listNumbers queries
 
-abbrev pub numbersLong : Held → Bool
+abbrev pub numbersLong : Slices → Bool
 numbersLong m = roomFor (length (m .state)) (length (m .queries))
 
 -- check 1, on the state and all seven tables
-abbrev pub longEnough : Held → Bool
-longEnough m = numbersLong m && tables.longEnough (m .tables)
+abbrev pub slicesLong : Slices → Bool
+slicesLong m = numbersLong m && tables.tablesLong (m .tables)
 
 -- what the caller holds, as the engine holds it
-abbrev pub machineOf : Held → Machine
-machineOf m = machine (stateOf (take stateNumbers (m .state))) (listOf (registeredIn (take stateNumbers (m .state))) (m .queries)) (m .tables)
+abbrev pub slicesMachine : Slices → Machine
+slicesMachine m = machine (stateOf (take stateNumbers (m .state))) (listOf (registeredIn (take stateNumbers (m .state))) (m .queries)) (m .tables)
