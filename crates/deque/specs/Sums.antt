@@ -1,6 +1,14 @@
 -- The closed partials with their sums, on tables of starts and of sums. The table holds at each place the sum of the
 -- partials at the places before it, since place 0: a lap of the ring. So the sum from an entry to the newest is a
 -- difference, and no number grows with the feed.
+--
+-- An example, with 4 places in place of 4,096. Six partials of the sums 5, 2, 7, 1, 4, 3 were pushed, the first at place
+-- 0, so that the fifth began the second lap, and the first two were evicted: the ring's head is place 2, its length 4.
+--     place                 0    1    2    3
+--     partial's sum         4    3    7    1
+--     the table holds       0    4    7   14      before place 1: 4; before place 3, in the lap before: 5 + 2 + 7
+--     lap 7 (4 + 3), previous 15 (5 + 2 + 7 + 1), newest place 1
+-- From place 1 on: 7 - 4 = 3. From place 3 on, which is greater than the newest place: 7 - 14 + 15 = 8 = 1 + 4 + 3.
 -- Assumes nothing.
 use Prim.Native.Nat.{ℕ, suc, _+_, _-_, _*_, _%_, _<_}
 use mathlib.Core.Bool.{cond}

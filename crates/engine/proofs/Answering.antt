@@ -1,5 +1,5 @@
 -- From state and tables that are the model's: the rings are in order, the answers of the due queries are the model's,
--- and eviction at the horizon leaves the live partials.
+-- and from the horizon on the rings hold the live partials.
 -- Assumes nothing.
 use mathlib.Core.Path.{_≡_, refl, sym, ap, _∙_, subst}
 use mathlib.Core.Bool.{Bool, true, false, cond}
@@ -13,7 +13,7 @@ use Rattle.window.specs.declared.query.Query.{Query}
 use Rattle.window.specs.Lists.{Each}
 use Rattle.window.specs.Orders.{Order, geZ, sum, extreme}
 use Rattle.window.specs.Queries.{sumKind, countKind, maximumKind, due, windowStart, windowCount, horizon}
-use Rattle.window.specs.Partials.{Entry, entries, partialsFrom, valueOf}
+use Rattle.window.specs.Partials.{Entry, entries, entriesFrom, partialsFrom, valueOf}
 use Rattle.window.specs.Standing.{standing, frontOf, evicted}
 use Rattle.window.specs.Refusals.{dueAt}
 use Rattle.window.specs.Model as model
@@ -21,6 +21,7 @@ use Rattle.window.specs.Model.{count, windowValue, window, answer, answers}
 use Rattle.window.specs.Invariant.{Ordered, Sorted, Invariant, FromPartials}
 use Rattle.window.proofs.Orders.{leZ-order, geZ-order}
 use Rattle.window.proofs.Queries.{horizon-le}
+use Rattle.window.proofs.Standing.{evicted-from}
 use Rattle.window.proofs.Tracking.{shape-ordered}
 use Rattle.window.proofs.Windows.{due-from-partials}
 use Rattle.deque.specs.declared.extremes.Deque.{Deque}
@@ -42,19 +43,23 @@ module _ (s : model.State) (st : State) (t : Tables) where
         subst Sorted (sym (k .entries))
         (standing-retained-sorted below (extreme below) (s .readings) (horizon (count s) (s .queries)) (s .closed) (b .held) (count s) (b .retained))
 
-    -- eviction at the horizon leaves in it those that stand of the live partials
-    deque-live : evicted (horizon (count s) (s .queries)) (entriesOf starts values (d .ring))
+    -- from the horizon on it holds those that stand of the live partials
+    deque-live : entriesFrom (horizon (count s) (s .queries)) (entriesOf starts values (d .ring))
         ≡ standing below (entries (extreme below) (s .readings) (partialsFrom (horizon (count s) (s .queries)) (s .closed)))
     deque-live =
         let h : ℕ = horizon (count s) (s .queries) in
-        ap (evicted h) (k .entries) ∙ standing-retained-evicted below (extreme below) (s .readings) h (s .closed) (b .held) (count s) (b .retained)
+        sym (evicted-from h (entriesOf starts values (d .ring)) deque-sorted) ∙ ap (evicted h) (k .entries) ∙ standing-retained-evicted below (extreme below) (s .readings) h (s .closed) (b .held) (count s) (b .retained)
+
+  -- the starts of the partials with their sums never fall
+  sums-sorted : Holds s st t → Sorted (partialsOf (t .starts) (t .sums) (st .sums))
+  sums-sorted b = subst Sorted (sym (b .sums)) (retained-sorted sum (s .readings) (horizon (count s) (s .queries)) (s .closed) (b .held) (count s) (b .retained))
 
   -- the starts in each ring never fall, and the table of sums is within its bounds
   pub in-order : StateIs s st t → InOrder st t
   in-order i =
       let b : Holds s st t = i .board in
       record {
-        sums = subst Sorted (sym (b .sums)) (retained-sorted sum (s .readings) (horizon (count s) (s .queries)) (s .closed) (b .held) (count s) (b .retained));
+        sums = sums-sorted b;
         bounds = b .bounds;
         maxima = deque-sorted b leZ (t .maxStarts) (t .maxValues) (st .maxima) (b .maxima);
         minima = deque-sorted b geZ (t .minStarts) (t .minValues) (st .minima) (b .minima);
@@ -62,13 +67,13 @@ module _ (s : model.State) (st : State) (t : Tables) where
 
   -- ---- what is live on the board
 
-  -- eviction at the horizon leaves exactly the live closed partials, with starts and sums, and for each order those
+  -- from the horizon on the rings hold exactly the live closed partials, with starts and sums, and for each order those
   -- that stand of them
   pub board-live : Holds s st t → HoldsLive s st t
   board-live b =
       let h : ℕ = horizon (count s) (s .queries) in
       record {
-        sums = ap (evicted h) (b .sums) ∙ retained-evicted sum (s .readings) h (s .closed) (b .held) (count s) (b .retained);
+        sums = sym (evicted-from h (partialsOf (t .starts) (t .sums) (st .sums)) (sums-sorted b)) ∙ ap (evicted h) (b .sums) ∙ retained-evicted sum (s .readings) h (s .closed) (b .held) (count s) (b .retained);
         maxima = deque-live b leZ (t .maxStarts) (t .maxValues) (st .maxima) (b .maxima);
         minima = deque-live b geZ (t .minStarts) (t .minValues) (st .minima) (b .minima);
       }

@@ -42,7 +42,9 @@ putAt at a t = take at t ++ (placesOf a ++ drop (at + answerPlaces) t)
 abbrev pub answeredPlaces : List Answer → List ℤ → List ℤ
 answeredPlaces given t = places given ++ drop (answerPlaces * length given) t
 
--- the first k answers that are read from a table
+-- the first k answers that are read from a table, four places each. The first three are read without their sign: that
+-- none of them is negative is said beside it, by `ReadingEnsures .places`: the table after a reading is the one before
+-- with just these answers written (`answeredPlaces`), and written numbers are not negative (`placesOf`)
 abbrev pub answersIn : ℕ → List ℤ → List Answer
 answersIn zero t = []
 answersIn (suc k) t =

@@ -59,7 +59,10 @@ pub record Ensures (c : Call) (m : Machine) (o : Outcome) (m′ : Machine) : Typ
 
 -- ---- reading
 
--- the answer table after a call: an accepted reading writes the places of its answers and no other, a refused one none
+-- the answer table after a call: an accepted reading writes the places of its answers and no other, a refused one none.
+-- With the outcome that a reading returns, read from that table (`readingOutcome`), it comes to this. Where the model's
+-- answers are as, k of them: the reading returns k, `answersIn k after ≡ as`, and
+--     after ≡ places as ++ drop (4 * k) before
 abbrev pub placesAfter : Outcome → List ℤ → List ℤ
 placesAfter (accepted ns answers) places = answeredPlaces answers places
 placesAfter (refused k) places = places

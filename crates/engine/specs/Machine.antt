@@ -11,8 +11,8 @@ use lib.ListN.{length}
 use Rattle.window.specs.Lists.{Each}
 use Rattle.window.specs.Orders.{geZ, sum, extreme, maximum, minimum}
 use Rattle.window.specs.Queries.{horizon}
-use Rattle.window.specs.Partials.{Partial, between, entries, partialsFrom}
-use Rattle.window.specs.Standing.{standing, evicted}
+use Rattle.window.specs.Partials.{Partial, between, entries, entriesFrom, partialsFrom}
+use Rattle.window.specs.Standing.{standing}
 use Rattle.window.specs.Calls.{IsReading}
 use Rattle.window.specs.Model as model
 use Rattle.window.specs.Model.{count}
@@ -62,6 +62,15 @@ OpenIs (Holding a) s = HoldingIs a s
 abbrev pub livePartials : model.State → List Partial
 livePartials s = partialsFrom (horizon (count s) (s .queries)) (s .closed)
 
+-- the board in document 01's words ("Conditions of acceptance"): of what the rings hold, the entries that start at the
+-- horizon or later are the live closed partials with starts and sums, and for maxima and for minima those of them that
+-- stand, with starts and values. It follows from `Holds` below (`board-live`), and is proved of every list of calls
+-- (`BoardLive`)
+pub record HoldsLive (s : model.State) (st : State) (t : Tables) : Type 0 where
+  pub sums : entriesFrom (horizon (count s) (s .queries)) (partialsOf (t .starts) (t .sums) (st .sums)) ≡ entries sum (s .readings) (livePartials s)
+  pub maxima : entriesFrom (horizon (count s) (s .queries)) (entriesOf (t .maxStarts) (t .maxValues) (st .maxima .ring)) ≡ standing leZ (entries maximum (s .readings) (livePartials s))
+  pub minima : entriesFrom (horizon (count s) (s .queries)) (entriesOf (t .minStarts) (t .minValues) (st .minima .ring)) ≡ standing geZ (entries minimum (s .readings) (livePartials s))
+
 -- a deque holds, on its tables, what stands of these partials
 pub record StandsOn (below : ℤ → ℤ → Bool) (readings : List ℤ) (ps : List Partial) (starts : List ℕ) (values : List ℤ) (d : Deque) : Type 0 where
   pub fits : Fits (d .ring)
@@ -78,14 +87,6 @@ pub record Holds (s : model.State) (st : State) (t : Tables) : Type 0 where
   pub bounds : InBounds (t .sums) (st .sums)
   pub maxima : StandsOn leZ (s .readings) held (t .maxStarts) (t .maxValues) (st .maxima)
   pub minima : StandsOn geZ (s .readings) held (t .minStarts) (t .minValues) (st .minima)
-
--- the same in document 01's words ("Conditions of acceptance"). With what is not live evicted: the sums are the live
--- closed partials with starts and sums, and maxima and minima those of them that stand, with starts and values. It
--- follows from `Holds` (`board-live`)
-pub record HoldsLive (s : model.State) (st : State) (t : Tables) : Type 0 where
-  pub sums : evicted (horizon (count s) (s .queries)) (partialsOf (t .starts) (t .sums) (st .sums)) ≡ entries sum (s .readings) (livePartials s)
-  pub maxima : evicted (horizon (count s) (s .queries)) (entriesOf (t .maxStarts) (t .maxValues) (st .maxima .ring)) ≡ standing leZ (entries maximum (s .readings) (livePartials s))
-  pub minima : evicted (horizon (count s) (s .queries)) (entriesOf (t .minStarts) (t .minValues) (st .minima .ring)) ≡ standing geZ (entries minimum (s .readings) (livePartials s))
 
 -- ---- the query list
 

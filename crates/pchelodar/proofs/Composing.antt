@@ -1,70 +1,185 @@
 -- What each function of the program hands to the next.
 -- Assumes nothing.
-use Prim.Native.Nat.{ℕ, _+_, _<_, _≤_}
-use mathlib.Core.Path.{_≡_, refl, sym, subst}
+use Prim.Native.Nat.{ℕ, zero, suc, _+_, _<_, _≤_}
+use mathlib.Core.Path.{_≡_, refl, sym, subst, _∙_}
+use mathlib.Core.Bool.{Bool, true, false, cond, false≢true}
 use native.Mathlib.Omega.{arith}
-use mathlib.Core.List.{List, [], _∷_}
-use lib.ListN.{length, take}
+use borrow.Author.Tests.{ltb-true, leb-true, leb-false}
+use mathlib.Core.List.{List, [], _∷_, _++_}
+use lib.Dec.{leb}
+use lib.IntN.{ℤ, pos, negsuc}
+use lib.Signed.{ltZ}
+use lib.ListN.{length, take, length-append, length-take}
 use types.Run.{OneOf, miss}
 use denote.Enum.Declared.{tagOf}
+use Rattle.io.specs.Counts.{clamped}
 use Rattle.engine.specs.Tables.{Tables}
 use Rattle.session.specs.Contracts.{Held, lineLimit}
-use Rattle.session.specs.Whole.{Reached, ReachedSome, Carries, CarriesSome, CarriesLimit, RanSome}
-use Rattle.session.proofs.Composing.{some-fewer, some-then, some-reached, limit-some, limit-then}
+use Rattle.session.specs.Whole.{Reached, Carries, CarriesLimit, RanAll}
+use Rattle.session.proofs.Whole.{whole-session}
+use Rattle.session.proofs.Composing.{carries-nothing, carries-then, limit-many, limit-then}
 use Rattle.pchelodar.specs.declared.Progress.{Progress}
 use Rattle.pchelodar.specs.declared.Progress.the-variants as progress
 use Rattle.pchelodar.proofs.Progress.{the-type}
-use Rattle.pchelodar.specs.Contracts.{ChunkFed, ChunkRead, AllRead, Handed, Concluded}
+use Rattle.pchelodar.specs.Contracts.{afterWrite, afterFeed, ChunkFed, Read, readOf, size, brought, Failed, Ended, AfterRead, Reads, none, next, ReadsFed, FedUntil, AllRead, ReachedUntil, Handed, RanReads, Concluded, WholeRun}
+
+-- ---- what a write said
 
 -- all bytes of a chunk
 pub chunk-fed : {chunk : List ℕ} {h h′ : Held} → Carries chunk h h′ → ChunkFed chunk h h′ progress.Onward
 unfolding ChunkFed
 chunk-fed f = f
 
--- no byte more of it
-pub chunk-limit : (chunk : List ℕ) {h h′ : Held} → CarriesLimit h h′ → ChunkFed chunk h h′ progress.TooLong
-unfolding ChunkFed
-chunk-limit chunk f = f
+-- a run that goes on after a write took a byte
+pub went-on : (said : Bool) (from to : ℕ) (p : Progress) → p ≡ afterWrite said (afterFeed from to) → p ≡ progress.Onward → from < to
+went-on said from to p e o = go said (leb to from) refl (sym o ∙ e)
+  where
+    go : (s b : Bool) → leb to from ≡ b → progress.Onward ≡ afterWrite s (cond b progress.TooLong progress.Onward) → from < to
+    go true true l q = other q
+      where
+        other : progress.Onward ≡ progress.TooLong → from < to
+        other d = absurd (false≢true cc)
+    go true false l q = omega (arith, leb-false to from l)
+    go false b l q = other q
+      where
+        other : progress.Onward ≡ progress.WriteFailed → from < to
+        other d = absurd (false≢true cc)
 
--- the front of a buffer is fed
-pub fed-read : (buffer : List ℕ) (count : ℕ) (h h′ : Held) (p : Progress) → 0 < count → count ≤ length buffer → ChunkFed (take count buffer) h h′ p → ChunkRead buffer h h′ p
-unfolding ChunkFed ChunkRead
-fed-read buffer count h h′ progress.Onward some inside f = record { count = count; some = some; inside = inside; carries = f }
-fed-read buffer count h h′ progress.InputEnded some inside f = absurd f
-fed-read buffer count h h′ progress.ReadFailed some inside f = absurd f
-fed-read buffer count h h′ progress.WriteFailed some inside f = tt
-fed-read buffer count h h′ progress.TooLong some inside f = f
+-- one that does not go on: a write failed, or the limit was reached. The cases by their numbers
+pub stopped : (chunk : List ℕ) (said : Bool) (from to : ℕ) {h h′ : Held} (p : Progress) → p ≡ afterWrite said (afterFeed from to) → OneOf (1 ∷ 2 ∷ 3 ∷ 4 ∷ []) (tagOf the-type p)
+    → (to ≤ from → CarriesLimit h h′) → ChunkFed chunk h h′ p
+unfolding ChunkFed
+stopped chunk said from to {h} {h′} p e k limit = go said (leb to from) refl e
+  where
+    go : (s b : Bool) → leb to from ≡ b → p ≡ afterWrite s (cond b progress.TooLong progress.Onward) → ChunkFed chunk h h′ p
+    go true true l q = subst (ChunkFed chunk h h′) (sym q) (limit (leb-true to from l))
+    go true false l q = absurd (miss (1 ∷ 2 ∷ 3 ∷ 4 ∷ []) 0 tt (subst (λ (x : Progress). OneOf (1 ∷ 2 ∷ 3 ∷ 4 ∷ []) (tagOf the-type x)) q k))
+    go false b l q = subst (ChunkFed chunk h h′) (sym q) tt
+
+-- ---- what a read returned
+
+-- where it failed it brought nothing
+failed-none : (got : ℤ) (n : ℕ) → ltZ got (pos 0) ≡ true → clamped got n ≡ 0
+failed-none (pos k) n e = absurd (omega (arith, ltb-true k 0 e))
+failed-none (negsuc k) n e = refl
+
+pub read-failed : (got : ℤ) (buffer : List ℕ) (h : Held) → ltZ got (pos 0) ≡ true → AfterRead (readOf got buffer) h h progress.ReadFailed
+read-failed got buffer h e =
+    record {
+      failed = λ f. (refl, refl);
+      ended = λ f. absurd (false≢true (sym (f .0) ∙ e));
+      some = λ l. absurd (omega (arith, failed-none got (length buffer) e, l));
+    }
+
+pub read-ended : (got : ℤ) (buffer : List ℕ) (h : Held) → ltZ got (pos 0) ≡ false → clamped got (length buffer) ≡ 0 → AfterRead (readOf got buffer) h h progress.InputEnded
+read-ended got buffer h e z =
+    record { failed = λ f. absurd (false≢true (sym e ∙ f)); ended = λ f. (refl, refl); some = λ l. absurd (omega (arith, z, l)) }
+
+pub read-some : (got : ℤ) (buffer : List ℕ) (count : ℕ) {h h′ : Held} {p : Progress} → ltZ got (pos 0) ≡ false → count ≡ clamped got (length buffer) → 0 < count
+    → ChunkFed (take count buffer) h h′ p → AfterRead (readOf got buffer) h h′ p
+read-some got buffer count {h} {h′} {p} e c l f =
+    record {
+      failed = λ g. absurd (false≢true (sym e ∙ g));
+      ended = λ g. absurd (omega (arith, g .1, c, l));
+      some = λ _. subst (λ (n : ℕ). ChunkFed (take n buffer) h h′ p) c f;
+    }
+
+-- ---- all reads
+
+-- each read brought a byte
+reads-many : {n : ℕ} {bytes : List ℕ} → Reads n bytes → n ≤ length bytes
+reads-many none = omega arith
+reads-many (next {n} {bytes} reads r some) =
+    omega (arith, reads-many reads, length-append bytes (brought r), length-take (size r) (r .buffer), within (r .got), some)
+  where
+    within : (got : ℤ) → clamped got (length (r .buffer)) ≤ length (r .buffer)
+    within (pos k) = omega arith
+    within (negsuc k) = omega arith
+
+-- no read
+pub reads-none : (h : Held) → ReadsFed 0 h h
+reads-none h = record { bytes = []; reads = none; carries = carries-nothing h }
+
+-- the three things that a read may come to
+data Came (r : Read) : Type 0 where
+  failing : Failed r → Came r
+  ending : Ended r → Came r
+  bringing : 0 < size r → Came r
+
+came : (r : Read) → Came r
+came r = go (ltZ (r .got) (pos 0)) refl (size r) refl
+  where
+    go : (b : Bool) → ltZ (r .got) (pos 0) ≡ b → (n : ℕ) → size r ≡ n → Came r
+    go true e n s = failing e
+    go false e zero s = ending (e, s)
+    go false e (suc n) s = bringing (omega (arith, s))
 
 -- one read more
-pub read-more : {m n : ℕ} (buffer : List ℕ) {h₀ h : Held} (h′ : Held) {p : Progress} → m ≤ n + 1 → p ≡ progress.Onward → CarriesSome n h₀ h → ChunkRead buffer h h′ p → CarriesSome m h₀ h′
-unfolding ChunkRead
-read-more buffer {h₀} {h} h′ {p} l e some r = some-fewer l (some-then some (subst (ChunkRead buffer h h′) e r))
+pub read-more : {m n : ℕ} (r : Read) {h₀ h : Held} (h′ : Held) {p : Progress} → m ≡ n + 1 → p ≡ progress.Onward → ReadsFed n h₀ h → AfterRead r h h′ p → ReadsFed m h₀ h′
+unfolding ChunkFed
+read-more {m} {n} r {h₀} {h} h′ {p} l e fed a = go (came r)
+  where
+    go : Came r → ReadsFed m h₀ h′
+    go (failing f) = absurd (ruled-out (sym (a .failed f .0) ∙ e))
+      where
+        ruled-out : progress.ReadFailed ≡ progress.Onward → ⊥
+        ruled-out q = false≢true cc
+    go (ending f) = absurd (ruled-out (sym (a .ended f .0) ∙ e))
+      where
+        ruled-out : progress.InputEnded ≡ progress.Onward → ⊥
+        ruled-out q = false≢true cc
+    go (bringing s) =
+        subst (λ (k : ℕ). ReadsFed k h₀ h′) (sym l)
+        (record {
+          bytes = fed .bytes ++ brought r;
+          reads = next (fed .reads) r s;
+          carries = carries-then (fed .carries) (subst (ChunkFed (brought r) h h′) e (a .some s));
+        })
 
 -- the last read: the cases after which no other follows, by their numbers
-pub read-last : {n : ℕ} (buffer : List ℕ) {h₀ h : Held} (h′ : Held) (p : Progress) → OneOf (1 ∷ 2 ∷ 3 ∷ 4 ∷ []) (tagOf the-type p) → CarriesSome n h₀ h → ChunkRead buffer h h′ p → AllRead h₀ h′ p
-unfolding ChunkRead AllRead
-read-last buffer h′ progress.Onward k some r = absurd (miss (1 ∷ 2 ∷ 3 ∷ 4 ∷ []) 0 tt k)
-read-last buffer {h₀} h′ progress.InputEnded k some r = subst (CarriesSome 0 h₀) (sym r) (some-fewer (omega arith) some)
-read-last buffer {h₀} h′ progress.ReadFailed k some r = subst (CarriesSome 0 h₀) (sym r) (some-fewer (omega arith) some)
-read-last buffer h′ progress.WriteFailed k some r = tt
-read-last buffer h′ progress.TooLong k some r = limit-then some r
+pub read-last : {n : ℕ} (r : Read) {h₀ h : Held} (h′ : Held) (p : Progress) → OneOf (1 ∷ 2 ∷ 3 ∷ 4 ∷ []) (tagOf the-type p) → ReadsFed n h₀ h → AfterRead r h h′ p → AllRead h₀ h′ p
+unfolding ChunkFed AllRead
+read-last {n} r {h₀} {h} h′ p k fed a = go (came r)
+  where
+    until : (End : Read → Type 0) → End r → h′ ≡ h → FedUntil End h₀ h′
+    until End f e = subst (FedUntil End h₀) (sym e) (record { number = n; fed = fed; last = r; ends = f })
 
--- no read is left: each brought a byte
-pub reads-spent : {n : ℕ} {h₀ h : Held} → lineLimit ≤ n → CarriesSome n h₀ h → AllRead h₀ h progress.TooLong
+    fed-on : (q : Progress) → OneOf (1 ∷ 2 ∷ 3 ∷ 4 ∷ []) (tagOf the-type q) → ChunkFed (brought r) h h′ q → AllRead h₀ h′ q
+    fed-on progress.Onward j f = absurd (miss (1 ∷ 2 ∷ 3 ∷ 4 ∷ []) 0 tt j)
+    fed-on progress.InputEnded j f = absurd f
+    fed-on progress.ReadFailed j f = absurd f
+    fed-on progress.WriteFailed j f = tt
+    fed-on progress.TooLong j f = limit-then (fed .carries) f
+
+    go : Came r → AllRead h₀ h′ p
+    go (failing f) = subst (AllRead h₀ h′) (sym (a .failed f .0)) (until Failed f (a .failed f .1))
+    go (ending f) = subst (AllRead h₀ h′) (sym (a .ended f .0)) (until Ended f (a .ended f .1))
+    go (bringing s) = fed-on p k (a .some s)
+
+-- no read is left
+pub reads-spent : {n : ℕ} {h₀ h : Held} → lineLimit ≤ n → ReadsFed n h₀ h → AllRead h₀ h progress.TooLong
 unfolding AllRead
-reads-spent l some = limit-some l some
+reads-spent l fed = limit-many (omega (arith, l, reads-many (fed .reads))) (fed .carries)
+
+-- ---- the whole run
 
 -- all input, from the opening on
 pub all-handed : {lent : Tables} {h : Held} (h′ : Held) (p : Progress) → Reached lent [] h → AllRead h h′ p → Handed lent h′ p
 unfolding AllRead Handed
-all-handed h′ progress.Onward first r = r
-all-handed h′ progress.InputEnded first r = some-reached first r
-all-handed h′ progress.ReadFailed first r = some-reached first r
-all-handed h′ progress.WriteFailed first r = tt
-all-handed {lent} h′ progress.TooLong first r = r .on lent [] first
+all-handed {lent} {h} h′ p first = go p
+  where
+    from : {End : Read → Type 0} → FedUntil End h h′ → ReachedUntil End lent h′
+    from f = record { number = f .number; bytes = f .fed .bytes; reads = f .fed .reads; last = f .last; ends = f .ends; reached = f .fed .carries .on lent [] first }
+
+    go : (q : Progress) → AllRead h h′ q → Handed lent h′ q
+    go progress.Onward r = r
+    go progress.InputEnded r = from r
+    go progress.ReadFailed r = from r
+    go progress.WriteFailed r = tt
+    go progress.TooLong r = r .on lent [] first
 
 -- where the input ended, it was fed
-pub handed-ended : (lent : Tables) (h : Held) {p : Progress} → p ≡ progress.InputEnded → Handed lent h p → ReachedSome lent h
+pub handed-ended : (lent : Tables) (h : Held) {p : Progress} → p ≡ progress.InputEnded → Handed lent h p → ReachedUntil Ended lent h
 unfolding Handed
 handed-ended lent h e p = subst (Handed lent h) e p
 
@@ -77,7 +192,16 @@ not-ended lent h new progress.ReadFailed k handed = record { last = h; fed = han
 not-ended lent h new progress.WriteFailed k handed = tt
 not-ended lent h new progress.TooLong k handed = record { last = h; fed = handed; leaves = refl }
 
--- a session whole
-pub concluded : {lent left : Tables} {new : List ℕ} → RanSome lent left new → Concluded lent left new progress.InputEnded
+-- a session whole, where the last write did not fail
+pub concluded : (said : Bool) {lent left : Tables} {h : Held} {new : List ℕ} (p : Progress) → p ≡ afterWrite said progress.InputEnded → (u : ReachedUntil Ended lent h)
+    → RanAll (u .bytes) lent left new → Concluded lent left new p
 unfolding Concluded
-concluded r = r
+concluded said {lent} {left} {h} {new} p e u ran = subst (Concluded lent left new) (sym e) (go said)
+  where
+    go : (s : Bool) → Concluded lent left new (afterWrite s progress.InputEnded)
+    go true = record { number = u .number; bytes = u .bytes; reads = u .reads; last = u .last; ended = u .ends; ran = ran }
+    go false = tt
+
+-- the claim about a run to its end
+pub whole-run : WholeRun
+whole-run lent left new r = whole-session (r .bytes) (r .ran .output) (r .ran .ran)

@@ -1,16 +1,35 @@
 -- What the program's functions promise: that they put the session's three functions together as its claim assumes
--- (`Whole` of `session`). Each is by cases on how the run goes on, or ended. Where a write failed nothing is promised.
+-- (`Whole` of `session`), and what they decide on what `read` and `write_all` returned.
 -- Assumes nothing.
+use Prim.Native.Nat.{ℕ, _+_, _<_}
 use mathlib.Core.Path.{_≡_}
-use mathlib.Core.List.{List}
-use Prim.Native.Nat.{ℕ}
+use mathlib.Core.Bool.{Bool, true, false, cond}
+use mathlib.Core.List.{List, [], _++_}
+use lib.Dec.{leb}
+use lib.IntN.{ℤ, pos}
+use lib.Signed.{ltZ}
+use lib.ListN.{length, take}
+use Rattle.io.specs.Counts.{clamped}
 use Rattle.engine.specs.Tables.{Tables}
+use Rattle.session.specs.Meaning.{sessionOutput}
 use Rattle.session.specs.Contracts.{Held}
-use Rattle.session.specs.Whole.{ReachedSome, ReachedLimit, Carries, CarriesSome, CarriesFront, CarriesLimit, RanSome}
+use Rattle.session.specs.Whole.{Reached, ReachedLimit, Carries, CarriesLimit, RanAll}
 use Rattle.pchelodar.specs.declared.Progress.{Progress}
 use Rattle.pchelodar.specs.declared.Progress.the-variants as progress
 
--- feed_chunk: all bytes of the chunk were fed, in order, or the limit was reached; it neither reads nor ends the input
+-- ---- what a write said
+
+-- after_write: it failed where it said so, and else the run goes on as it would
+abbrev pub afterWrite : Bool → Progress → Progress
+afterWrite true next = next
+afterWrite false next = progress.WriteFailed
+
+-- after_feed, of bytes from one place up to another: a session that took none has come to its limit
+abbrev pub afterFeed : ℕ → ℕ → Progress
+afterFeed from to = cond (leb to from) progress.TooLong progress.Onward
+
+-- feed_chunk: all bytes of the chunk were fed, in order, or the limit was reached, or a write failed; it neither reads
+-- nor ends the input
 unfoldable pub ChunkFed : List ℕ → Held → Held → Progress → Type 0
 ChunkFed chunk h h′ progress.Onward = Carries chunk h h′
 ChunkFed chunk h h′ progress.InputEnded = ⊥
@@ -18,44 +37,113 @@ ChunkFed chunk h h′ progress.ReadFailed = ⊥
 ChunkFed chunk h h′ progress.WriteFailed = Unit {0}
 ChunkFed chunk h h′ progress.TooLong = CarriesLimit h h′
 
--- read_chunk, which leaves its buffer like this: a byte or more were fed from the front of it; or the input ended or
--- could not be read, and nothing changed
-unfoldable pub ChunkRead : List ℕ → Held → Held → Progress → Type 0
-ChunkRead buffer h h′ progress.Onward = CarriesFront buffer h h′
-ChunkRead buffer h h′ progress.InputEnded = h′ ≡ h
-ChunkRead buffer h h′ progress.ReadFailed = h′ ≡ h
-ChunkRead buffer h h′ progress.WriteFailed = Unit {0}
-ChunkRead buffer h h′ progress.TooLong = CarriesLimit h h′
+-- ---- what a read returned
 
--- read_all: some bytes were fed up to the end of the input, or to where it could not be read. It stops before that only
--- where a write failed, or at the limit
+-- one read: what it returned, and the buffer as it left it
+pub record Read : Type 0 where
+  pub got : ℤ
+  pub buffer : List ℕ
+
+-- the two, in this order
+abbrev pub readOf : ℤ → List ℕ → Read
+readOf got buffer = record { got = got; buffer = buffer }
+
+-- how many bytes it brought: as many as it returned, by the kit's clamp to the buffer
+abbrev pub size : Read → ℕ
+size r = clamped (r .got) (length (r .buffer))
+
+-- the bytes that it brought: the front of the buffer
+abbrev pub brought : Read → List ℕ
+brought r = take (size r) (r .buffer)
+
+-- the read failed: it returned a number below 0
+abbrev pub Failed : Read → Type 0
+Failed r = ltZ (r .got) (pos 0) ≡ true
+
+-- the input ended: it did not fail, and brought no byte
+abbrev pub Ended : Read → Type 0
+Ended r = (ltZ (r .got) (pos 0) ≡ false) × (size r ≡ 0)
+
+-- after_read, by what the read came to: where it failed or the input ended, the run ends so and nothing changes; else
+-- just the bytes that it brought are fed
+pub record AfterRead (r : Read) (h h′ : Held) (p : Progress) : Type 0 where
+  pub failed : Failed r → (p ≡ progress.ReadFailed) × (h′ ≡ h)
+  pub ended : Ended r → (p ≡ progress.InputEnded) × (h′ ≡ h)
+  pub some : 0 < size r → ChunkFed (brought r) h h′ p
+
+-- ---- all reads
+
+-- so many reads, one after the other, each of which brought a byte or more: all bytes that they brought, in order
+pub data Reads : ℕ → List ℕ → Type 0 where
+  none : Reads 0 []
+  next : {n : ℕ} {bytes : List ℕ} → Reads n bytes → (r : Read) → 0 < size r → Reads (n + 1) (bytes ++ brought r)
+
+-- from one to the other all bytes that so many reads brought were fed
+pub record ReadsFed (n : ℕ) (h h′ : Held) : Type 0 where
+  pub bytes : List ℕ
+  pub reads : Reads n bytes
+  pub carries : Carries bytes h h′
+
+-- the same of some reads, after which one came to an end
+pub record FedUntil (End : Read → Type 0) (h h′ : Held) : Type 0 where
+  pub number : ℕ
+  pub fed : ReadsFed number h h′
+  pub last : Read
+  pub ends : End last
+
+-- read_all: all that the reads brought was fed, up to the end of the input, or to where it could not be read. It stops
+-- before that only where a write failed, or at the limit
 unfoldable pub AllRead : Held → Held → Progress → Type 0
 AllRead h h′ progress.Onward = ⊥
-AllRead h h′ progress.InputEnded = CarriesSome 0 h h′
-AllRead h h′ progress.ReadFailed = CarriesSome 0 h h′
+AllRead h h′ progress.InputEnded = FedUntil Ended h h′
+AllRead h h′ progress.ReadFailed = FedUntil Failed h h′
 AllRead h h′ progress.WriteFailed = Unit {0}
 AllRead h h′ progress.TooLong = CarriesLimit h h′
 
--- what conclude is handed: a session that was opened on these tables and fed some input
+-- a session that was opened on these tables and fed all that reads brought, after which one came to an end
+pub record ReachedUntil (End : Read → Type 0) (lent : Tables) (h : Held) : Type 0 where
+  pub number : ℕ
+  pub bytes : List ℕ
+  pub reads : Reads number bytes
+  pub last : Read
+  pub ends : End last
+  pub reached : Reached lent bytes h
+
+-- what conclude is handed
 unfoldable pub Handed : Tables → Held → Progress → Type 0
 Handed lent h progress.Onward = ⊥
-Handed lent h progress.InputEnded = ReachedSome lent h
-Handed lent h progress.ReadFailed = ReachedSome lent h
+Handed lent h progress.InputEnded = ReachedUntil Ended lent h
+Handed lent h progress.ReadFailed = ReachedUntil Failed lent h
 Handed lent h progress.WriteFailed = Unit {0}
 Handed lent h progress.TooLong = ReachedLimit lent h
 
--- a session that was opened on these tables and broken off, and the tables that it left: fed some input, or so much
--- that it came to the limit
+-- ---- the whole run
+
+-- a run to its end, which leaves the tables and the output like this: after the reads that brought bytes one found the
+-- input ended; the session of all bytes that they brought, opened on these tables, is whole
+pub record RanReads (lent left : Tables) (new : List ℕ) : Type 0 where
+  pub number : ℕ
+  pub bytes : List ℕ
+  pub reads : Reads number bytes
+  pub last : Read
+  pub ended : Ended last
+  pub ran : RanAll bytes lent left new
+
+-- a session that was opened on these tables and broken off, and the tables that it left
 pub record BrokenOff (Fed : Held → Type 0) (left : Tables) : Type 0 where
   pub last : Held
   pub fed : Fed last
   pub leaves : left ≡ last .tables
 
--- a run that came to its end: a session whole, opened on these tables, fed some input and finished, which leaves the
--- tables and the output like this. Any other was broken off since a read or a write failed, or after 2^64 - 2 bytes
+-- run: the whole session, or one that was broken off since a read or a write failed, or after 2^64 - 2 bytes. Where a
+-- write failed nothing is promised
 unfoldable pub Concluded : Tables → Tables → List ℕ → Progress → Type 0
 Concluded lent left new progress.Onward = ⊥
-Concluded lent left new progress.InputEnded = RanSome lent left new
-Concluded lent left new progress.ReadFailed = BrokenOff (ReachedSome lent) left
+Concluded lent left new progress.InputEnded = RanReads lent left new
+Concluded lent left new progress.ReadFailed = BrokenOff (ReachedUntil Failed lent) left
 Concluded lent left new progress.WriteFailed = Unit {0}
 Concluded lent left new progress.TooLong = BrokenOff (ReachedLimit lent) left
+
+-- the claim about such a run: what was put into the output, in all, is the session of all that the reads brought
+abbrev pub WholeRun : Type 0
+WholeRun = (lent left : Tables) (new : List ℕ) (r : RanReads lent left new) → r .ran .output ≡ sessionOutput (r .bytes)

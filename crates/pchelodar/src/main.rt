@@ -12,7 +12,7 @@ ghost use Prim.Native.Nat.{_≤_};
 ghost use lib.ListN.{length};
 ghost use Rattle.engine.specs.Tables.{Tables, tables, tablesLong};
 ghost use Rattle.session.specs.Contracts.{held, finishRoom};
-ghost use Rattle.pchelodar.specs.Contracts.{ChunkFed, ChunkRead, AllRead, Handed, Concluded};
+ghost use Rattle.pchelodar.specs.Contracts.{afterWrite, afterFeed, ChunkFed, readOf, AfterRead, AllRead, Handed, Concluded};
 
 // How a run goes on, or ended.
 enum Progress {
@@ -26,6 +26,26 @@ enum Progress {
 struct Running {
     session: Session,
     progress: Progress,
+}
+
+// What follows a write: it failed where it said so, and else the run goes on as it would.
+fn after_write(said: bool, next: Progress) -> Progress
+    ensures { λ r. ⌜ r ≡ afterWrite said next ⌝ }
+{
+    if !said {
+        return Progress::WriteFailed;
+    }
+    next
+}
+
+// What follows bytes from one place up to another: a session that took none has come to its limit.
+fn after_feed(from: usize, to: usize) -> Progress
+    ensures { λ r. ⌜ r ≡ afterFeed from to ⌝ }
+{
+    if to <= from {
+        return Progress::TooLong;
+    }
+    Progress::Onward
 }
 
 // All bytes of a chunk. What they print is written whenever the output is nearly full, and at the chunk's end.
@@ -63,17 +83,15 @@ fn feed_chunk(
         held = taken.session;
         let to = taken.to;
         let at = taken.at;
-        if !io::write_all(STDOUT_FILENO, &out[..at]) {
-            return Running {
+        let next = after_feed(from, to);
+        let said = io::write_all(STDOUT_FILENO, &out[..at]);
+        let progress = after_write(said, next);
+        match progress {
+            Progress::Onward => {}
+            _ => return Running {
                 session: held,
-                progress: Progress::WriteFailed,
-            };
-        }
-        if to <= from {
-            return Running {
-                session: held,
-                progress: Progress::TooLong,
-            };
+                progress,
+            },
         }
         from = to;
     }
@@ -83,8 +101,10 @@ fn feed_chunk(
     }
 }
 
-// One read of standard input, and what it brings.
-fn read_chunk(
+// What follows a read of standard input into the chunk, by what it returned: below 0 it failed; no byte means that the
+// input ended; else as many bytes as it returned, and no more than there are, are fed from the chunk's front.
+fn after_read(
+    got: isize,
     session: Session,
     starts: &mut [Count],
     sums: &mut [i64],
@@ -92,14 +112,14 @@ fn read_chunk(
     max_values: &mut [i32],
     min_starts: &mut [Count],
     min_values: &mut [i32],
-    chunk: &mut [u8],
+    chunk: &[u8],
     out: &mut [u8],
 ) -> Running
     requires { ⌜ finishRoom ≤ length (now out) ⌝ }
-    ensures { λ r. ⌜ ChunkRead (now (chunk .exit)) (held session (tables (now (starts .entry)) (now (sums .entry)) (now («max_starts» .entry)) (now («max_values» .entry)) (now («min_starts» .entry)) (now («min_values» .entry))))
+    ensures { λ r. ⌜ AfterRead (readOf got (now (chunk .entry)))
+        (held session (tables (now (starts .entry)) (now (sums .entry)) (now («max_starts» .entry)) (now («max_values» .entry)) (now («min_starts» .entry)) (now («min_values» .entry))))
         (held (r .session) (tables (now (starts .exit)) (now (sums .exit)) (now («max_starts» .exit)) (now («max_values» .exit)) (now («min_starts» .exit)) (now («min_values» .exit)))) (r .progress) ⌝ }
 {
-    let got = libc::read(STDIN_FILENO, chunk);
     if got < 0 {
         return Running {
             session,
@@ -147,7 +167,9 @@ fn read_all(
     let mut reads: u64 = 18_446_744_073_709_551_615;
     while 0 < reads {
         reads -= 1;
-        let next = read_chunk(
+        let got = libc::read(STDIN_FILENO, chunk);
+        let next = after_read(
+            got,
             held,
             starts,
             sums,
@@ -205,10 +227,8 @@ fn conclude(
         ),
         _ => return progress,
     };
-    if io::write_all(STDOUT_FILENO, &out[..at]) {
-        return Progress::InputEnded;
-    }
-    Progress::WriteFailed
+    let said = io::write_all(STDOUT_FILENO, &out[..at]);
+    after_write(said, Progress::InputEnded)
 }
 
 // What ended the run before its time, on standard error.

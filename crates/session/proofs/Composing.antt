@@ -13,7 +13,7 @@ use Rattle.engine.specs.Tables.{Tables, tablesLong}
 use Rattle.session.specs.Meaning.{lineRoom}
 use Rattle.session.specs.Stream.{Running, opened, fedAll}
 use Rattle.session.specs.Contracts.{Held, Shown, Says, lineLimit, OpenEnsures, FeedEnsures, finishRoom, FinishEnsures}
-use Rattle.session.specs.Whole.{Fed, none, more, Reached, ReachedSome, ReachedLimit, Carries, CarriesSome, CarriesFront, CarriesLimit, RanSome}
+use Rattle.session.specs.Whole.{Fed, none, more, Reached, ReachedLimit, Carries, CarriesLimit, RanAll}
 use Rattle.session.proofs.Slices.{slice-then}
 use Rattle.session.proofs.Streaming.{lines-few}
 use Rattle.session.proofs.Whole.{reached-shown}
@@ -73,7 +73,7 @@ carries-as : {xs ys : List ℕ} {h h′ : Held} → xs ≡ ys → Carries xs h h
 carries-as {xs} {ys} {h} {h′} e p = subst (λ (l : List ℕ). Carries l h h′) e p
 
 -- no byte
-carries-nothing : (h : Held) → Carries [] h h
+pub carries-nothing : (h : Held) → Carries [] h h
 carries-nothing h = record { on = λ t input p. reached-as (sym (append-nil input)) p }
 
 -- no byte of a chunk
@@ -95,39 +95,18 @@ carries-next {chunk} {old} {new} {from} {to} {written} {h₀} {h} {h′} l p f =
 pub carries-all : (chunk : List ℕ) (from : ℕ) {h h′ : Held} → length chunk ≤ from → Carries (slice 0 from chunk) h h′ → Carries chunk h h′
 carries-all chunk from l p = carries-as (take-all from chunk l) p
 
--- ---- some bytes
-
-pub some-none : (h : Held) → CarriesSome 0 h h
-some-none h = record { bytes = []; carries = carries-nothing h; many = omega arith }
-
--- so many at least, or fewer
-pub some-fewer : {m n : ℕ} {h h′ : Held} → m ≤ n → CarriesSome n h h′ → CarriesSome m h h′
-some-fewer l p = record { bytes = p .bytes; carries = p .carries; many = omega (arith, p .many) }
-
--- some bytes, and then the front of a buffer: one more at least
-pub some-then : {n : ℕ} {buffer : List ℕ} {h h′ h″ : Held} → CarriesSome n h h′ → CarriesFront buffer h′ h″ → CarriesSome (n + 1) h h″
-some-then {n} {buffer} {h} {h′} {h″} p q =
-    record {
-      bytes = p .bytes ++ take (q .count) buffer;
-      carries = record { on = on };
-      many = omega (arith, length-append (p .bytes) (take (q .count) buffer), length-take (q .count) buffer, p .many, q .some, q .inside);
-    }
-  where
-    on : (t : Tables) (input : List ℕ) → Reached t input h → Reached t (input ++ (p .bytes ++ take (q .count) buffer)) h″
-    on t input r = reached-as (append-assoc input (p .bytes) (take (q .count) buffer)) (q .carries .on t (input ++ p .bytes) (p .carries .on t input r))
-
--- some bytes, from the opening on
-pub some-reached : {n : ℕ} {t : Tables} {h h′ : Held} → Reached t [] h → CarriesSome n h h′ → ReachedSome t h′
-some-reached {t = t} p q = record { input = q .bytes; reached = q .carries .on t [] p }
+-- bytes, and then others
+pub carries-then : {xs ys : List ℕ} {h h′ h″ : Held} → Carries xs h h′ → Carries ys h′ h″ → Carries (xs ++ ys) h h″
+carries-then {xs} {ys} p q = record { on = λ t input r. reached-as (append-assoc input xs ys) (q .on t (input ++ xs) (p .on t input r)) }
 
 -- ---- so many that they come to the limit
 
-pub limit-some : {n : ℕ} {h h′ : Held} → lineLimit ≤ n → CarriesSome n h h′ → CarriesLimit h h′
-limit-some {n} l p =
-    record { on = λ t input r. record { input = input ++ p .bytes; reached = p .carries .on t input r; many = omega (arith, length-append input (p .bytes), p .many) } }
+pub limit-many : {bytes : List ℕ} {h h′ : Held} → lineLimit ≤ length bytes → Carries bytes h h′ → CarriesLimit h h′
+limit-many {bytes} l p =
+    record { on = λ t input r. record { input = input ++ bytes; reached = p .on t input r; many = omega (arith, length-append input bytes) } }
 
-pub limit-then : {n : ℕ} {h h′ h″ : Held} → CarriesSome n h h′ → CarriesLimit h′ h″ → CarriesLimit h h″
-limit-then p q = record { on = λ t input r. q .on t (input ++ p .bytes) (p .carries .on t input r) }
+pub limit-then : {bytes : List ℕ} {h h′ h″ : Held} → Carries bytes h h′ → CarriesLimit h′ h″ → CarriesLimit h h″
+limit-then {bytes} p q = record { on = λ t input r. q .on t (input ++ bytes) (p .on t input r) }
 
 -- where a call has room and takes no byte, there were so many
 pub limit-stopped : {chunk old new : List ℕ} {from to written : ℕ} {h₀ h h′ : Held} → lineRoom ≤ length old → from < length chunk → to ≤ from
@@ -149,24 +128,13 @@ limit-stopped {chunk} {old} {new} {from} {to} {written} {h₀} {h} {h′} room b
         at-limit false e sh = ltb-false (h .session .lines) lineLimit e
 
 -- finished
-pub ran-some : {t left : Tables} {h : Held} {old new : List ℕ} {written : ℕ} → finishRoom ≤ length old → ReachedSome t h → FinishEnsures h old left new written → RanSome t left new
-ran-some {t} {left} {h} {old} {new} {written} room p f =
+pub ran-all : {t left : Tables} {h : Held} {input old new : List ℕ} {written : ℕ} → finishRoom ≤ length old → Reached t input h → FinishEnsures h old left new written
+    → RanAll input t left new
+ran-all {t} {left} {h} {input} {old} {new} {written} room p f =
     record {
-      input = p .input;
-      output = p .reached .text ++ take written new;
-      ran = record {
-        text = p .reached .text;
-        last = h;
-        begun = p .reached .begun;
-        old = old;
-        room = room;
-        left = left;
-        new = new;
-        written = written;
-        finish = f;
-        all = refl;
-      };
-      on = p .reached .on;
+      output = p .text ++ take written new;
+      ran = record { text = p .text; last = h; begun = p .begun; old = old; room = room; left = left; new = new; written = written; finish = f; all = refl };
+      on = p .on;
       leaves = refl;
       ends = refl;
     }

@@ -54,12 +54,7 @@ pub record Reached (lent : Tables) (input : List ℕ) (h : Held) : Type 0 where
   pub begun : Begun input text h
   pub on : begun .lent ≡ lent
 
--- opened on these tables and fed some input
-pub record ReachedSome (lent : Tables) (h : Held) : Type 0 where
-  pub input : List ℕ
-  pub reached : Reached lent input h
-
--- the same, of 2^64 - 2 bytes or more: as many as there are numbers for lines before the last
+-- opened on these tables and fed 2^64 - 2 bytes or more: as many as there are numbers for lines before the last
 pub record ReachedLimit (lent : Tables) (h : Held) : Type 0 where
   pub input : List ℕ
   pub reached : Reached lent input h
@@ -69,26 +64,13 @@ pub record ReachedLimit (lent : Tables) (h : Held) : Type 0 where
 pub record Carries (bytes : List ℕ) (h h′ : Held) : Type 0 where
   pub on : (lent : Tables) (input : List ℕ) → Reached lent input h → Reached lent (input ++ bytes) h′
 
--- from one to the other some bytes are fed, so many at least
-pub record CarriesSome (least : ℕ) (h h′ : Held) : Type 0 where
-  pub bytes : List ℕ
-  pub carries : Carries bytes h h′
-  pub many : least ≤ length bytes
-
--- from one to the other a byte or more are fed, from the front of this buffer
-pub record CarriesFront (buffer : List ℕ) (h h′ : Held) : Type 0 where
-  pub count : ℕ
-  pub some : 0 < count
-  pub inside : count ≤ length buffer
-  pub carries : Carries (take count buffer) h h′
-
 -- from one to the other so many bytes are fed that they come to the limit with what came before
 pub record CarriesLimit (h h′ : Held) : Type 0 where
   pub on : (lent : Tables) (input : List ℕ) → Reached lent input h → ReachedLimit lent h′
 
--- a whole session of some input: opened on these tables, and the tables and the output that its end left
-pub record RanSome (lent left : Tables) (new : List ℕ) : Type 0 where
-  pub input : List ℕ
+-- a whole session of this input: opened on these tables, what was put into the output in all, and the tables and the
+-- output that its end left
+pub record RanAll (input : List ℕ) (lent left : Tables) (new : List ℕ) : Type 0 where
   pub output : List ℕ
   pub ran : Ran input output
   pub on : ran .begun .lent ≡ lent

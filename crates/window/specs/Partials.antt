@@ -49,6 +49,6 @@ live horizon start = leb horizon start
 abbrev pub partialsFrom : ℕ → List Partial → List Partial
 partialsFrom h ps = filter (λ (p : Partial). live h (p .start)) ps
 
--- the same of entries; only laws use it
+-- the same of entries
 abbrev pub entriesFrom : {A : Type 0} → ℕ → List (Entry A) → List (Entry A)
 entriesFrom {A} h es = filter (λ (e : Entry A). live h (e .start)) es

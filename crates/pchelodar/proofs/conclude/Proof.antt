@@ -1,10 +1,9 @@
--- `conclude` meets its contract: where the input ended, the session is finished, and whole. What is written is inside
--- the output. Assumes nothing.
+-- `conclude` meets its contract: where the input ended, the session is finished, and whole where the last write did not
+-- fail. What is written is inside the output. Assumes nothing.
 use lib.ListN.{length-take}
 use native.Mathlib.Omega.{arith}
 use borrow.Author.Needs.{needs}
-use Rattle.session.proofs.Composing.{ran-some}
-use Rattle.pchelodar.specs.Contracts.{Concluded}
+use Rattle.session.proofs.Composing.{ran-all}
 use Rattle.pchelodar.proofs.Composing.{handed-ended, not-ended, concluded}
 use Rattle.pchelodar.proofs.conclude.Statement.{statement}
 use Rattle.pchelodar.proofs.conclude.Tie as tie
@@ -28,6 +27,9 @@ slice-aggregate-write-all c =
 
 write-all-requires : tie.Need-write-all-requires
 write-all-requires c κs = search needs
+
+after-write-requires : tie.Need-after-write-requires
+after-write-requires c κs = search needs
 
 same-length : tie.Need-same-length
 same-length c = search needs
@@ -55,32 +57,8 @@ returns-2 c lent handed =
     let at-finish = c .before .before .before .before .before .before .before .before .before .before .before .before .before .before in
     let at-told = at-finish .before .before .before .before .before .before .before .before in
     let at-start = at-told .before .before .before .before .before .before .before in
-    concluded (ran-some (at-start .pre) (handed-ended lent _ (at-told .enum-told .given .1) handed) (at-finish .finish .ensures))
-
-same-length-8 : tie.Need-same-length-8
-same-length-8 c = search needs
-
-same-length-9 : tie.Need-same-length-9
-same-length-9 c = search needs
-
-same-length-10 : tie.Need-same-length-10
-same-length-10 c = search needs
-
-same-length-11 : tie.Need-same-length-11
-same-length-11 c = search needs
-
-same-length-12 : tie.Need-same-length-12
-same-length-12 c = search needs
-
-same-length-13 : tie.Need-same-length-13
-same-length-13 c = search needs
-
-same-length-14 : tie.Need-same-length-14
-same-length-14 c = search needs
-
-returns-3 : tie.Need-returns-3
-unfolding Concluded
-returns-3 c lent handed = tt
+    let ended = handed-ended lent _ (at-told .enum-told .given .1) handed in
+    concluded (c .before .write-all .result) (c .after-write .result) (c .after-write .ensures) ended (ran-all (at-start .pre) (ended .reached) (at-finish .finish .ensures))
 
 pub conclude-spec : {M : Type 1} → statement M
 conclude-spec =
@@ -92,6 +70,7 @@ conclude-spec =
     slice-reshare-prefix-write-all
     slice-aggregate-write-all
     write-all-requires
+    after-write-requires
     same-length
     same-length-2
     same-length-3
@@ -99,12 +78,4 @@ conclude-spec =
     same-length-5
     same-length-6
     same-length-7
-    returns-2
-    same-length-8
-    same-length-9
-    same-length-10
-    same-length-11
-    same-length-12
-    same-length-13
-    same-length-14
-    returns-3)
+    returns-2)

@@ -2,16 +2,17 @@
 -- is written is inside the output. The measure is how many bytes of the chunk are left. Assumes nothing.
 use native.Mathlib.Omega.{arith}
 use Prim.Native.Nat.{_-_, _≤_}
-use mathlib.Core.Path.{_≡_, refl, _∙_}
+use mathlib.Core.Path.{_≡_, refl, ap, _∙_}
 use lib.ListN.{length, length-take}
 use lib.Seq.{slice}
+use borrow.Author.Needs.{needs}
 use Rattle.engine.specs.Tables.{tables, TablesKept}
 use Rattle.engine.proofs.Keeping.{tables-same, tables-then}
 use Rattle.session.specs.Contracts.{held}
 use Rattle.session.specs.Whole.{Carries}
 use Rattle.session.proofs.Composing.{carries-none, carries-next, carries-all, limit-stopped}
-use Rattle.pchelodar.specs.Contracts.{ChunkFed}
-use Rattle.pchelodar.proofs.Composing.{chunk-fed, chunk-limit}
+use Rattle.pchelodar.specs.Contracts.{afterWrite}
+use Rattle.pchelodar.proofs.Composing.{chunk-fed, went-on, stopped}
 use Rattle.pchelodar.proofs.feed_chunk.Statement.{statement}
 use Rattle.pchelodar.proofs.feed_chunk.Tie as tie
 
@@ -34,149 +35,116 @@ loop-holds c =
 feed-requires : tie.Need-feed-requires Inv-loop μ-loop
 feed-requires c κs = tt
 
+after-feed-requires : tie.Need-after-feed-requires Inv-loop μ-loop
+after-feed-requires c κs = tt
+
 slice-reshare-prefix-write-all : tie.Need-slice-reshare-prefix-write-all Inv-loop μ-loop
 slice-reshare-prefix-write-all c =
-    let at-feed = c .before .before .before .before .before .before .before .before .before .before .before .before in
+    let at-feed = c .before .before .before .before .before .before .before .before .before .before .before .before .before in
     omega (arith, at-feed .feed .ensures .taken .fits)
 
 slice-aggregate-write-all : tie.Need-slice-aggregate-write-all Inv-loop μ-loop
 slice-aggregate-write-all c =
-    let at-feed = c .before .before .before .before .before .before .before .before .before .before .before .before .before in
+    let at-feed = c .before .before .before .before .before .before .before .before .before .before .before .before .before .before in
     omega (arith, at-feed .feed .ensures .taken .fits, length-take (at-feed .feed .result .at) (at-feed .feed .last .1 .1 .1 .1 .1 .1 .1 .1 .1 .0))
 
 write-all-requires : tie.Need-write-all-requires Inv-loop μ-loop
 write-all-requires c κs = tt
 
+after-write-requires : tie.Need-after-write-requires Inv-loop μ-loop
+after-write-requires c κs = tt
+
+enum-told : tie.Need-enum-told Inv-loop μ-loop
+enum-told c = search needs
+
 same-length : tie.Need-same-length Inv-loop μ-loop
 same-length c =
-    let at-feed = c .before .before .before .before .before .before .before .before .before .before .before .before .before .before .before in
-    let at-loop = at-feed .before .before .before .before .before .before .before .before .before in
-    (tables-then (at-loop .loop .inv .0) (at-feed .feed .ensures .taken .streams .kept)) .starts .asLong
+    let at-feed = c .before .before .before .before .before .before .before .before .before .before .before .before .before .before .before .before .before in
+    (tables-then (at-feed .before .before .before .before .before .before .before .before .before .loop .inv .0) (at-feed .feed .ensures .taken .streams .kept)) .starts .asLong
 
 same-length-2 : tie.Need-same-length-2 Inv-loop μ-loop
 same-length-2 c =
-    let at-feed = c .before .before .before .before .before .before .before .before .before .before .before .before .before .before .before in
-    let at-loop = at-feed .before .before .before .before .before .before .before .before .before in
-    (tables-then (at-loop .loop .inv .0) (at-feed .feed .ensures .taken .streams .kept)) .sums .asLong
+    let at-feed = c .before .before .before .before .before .before .before .before .before .before .before .before .before .before .before .before .before in
+    (tables-then (at-feed .before .before .before .before .before .before .before .before .before .loop .inv .0) (at-feed .feed .ensures .taken .streams .kept)) .sums .asLong
 
 same-length-3 : tie.Need-same-length-3 Inv-loop μ-loop
 same-length-3 c =
-    let at-feed = c .before .before .before .before .before .before .before .before .before .before .before .before .before .before .before in
-    let at-loop = at-feed .before .before .before .before .before .before .before .before .before in
-    (tables-then (at-loop .loop .inv .0) (at-feed .feed .ensures .taken .streams .kept)) .maxStarts .asLong
+    let at-feed = c .before .before .before .before .before .before .before .before .before .before .before .before .before .before .before .before .before in
+    (tables-then (at-feed .before .before .before .before .before .before .before .before .before .loop .inv .0) (at-feed .feed .ensures .taken .streams .kept)) .maxStarts .asLong
 
 same-length-4 : tie.Need-same-length-4 Inv-loop μ-loop
 same-length-4 c =
-    let at-feed = c .before .before .before .before .before .before .before .before .before .before .before .before .before .before .before in
-    let at-loop = at-feed .before .before .before .before .before .before .before .before .before in
-    (tables-then (at-loop .loop .inv .0) (at-feed .feed .ensures .taken .streams .kept)) .maxValues .asLong
+    let at-feed = c .before .before .before .before .before .before .before .before .before .before .before .before .before .before .before .before .before in
+    (tables-then (at-feed .before .before .before .before .before .before .before .before .before .loop .inv .0) (at-feed .feed .ensures .taken .streams .kept)) .maxValues .asLong
 
 same-length-5 : tie.Need-same-length-5 Inv-loop μ-loop
 same-length-5 c =
-    let at-feed = c .before .before .before .before .before .before .before .before .before .before .before .before .before .before .before in
-    let at-loop = at-feed .before .before .before .before .before .before .before .before .before in
-    (tables-then (at-loop .loop .inv .0) (at-feed .feed .ensures .taken .streams .kept)) .minStarts .asLong
+    let at-feed = c .before .before .before .before .before .before .before .before .before .before .before .before .before .before .before .before .before in
+    (tables-then (at-feed .before .before .before .before .before .before .before .before .before .loop .inv .0) (at-feed .feed .ensures .taken .streams .kept)) .minStarts .asLong
 
 same-length-6 : tie.Need-same-length-6 Inv-loop μ-loop
 same-length-6 c =
-    let at-feed = c .before .before .before .before .before .before .before .before .before .before .before .before .before .before .before in
-    let at-loop = at-feed .before .before .before .before .before .before .before .before .before in
-    (tables-then (at-loop .loop .inv .0) (at-feed .feed .ensures .taken .streams .kept)) .minValues .asLong
+    let at-feed = c .before .before .before .before .before .before .before .before .before .before .before .before .before .before .before .before .before in
+    (tables-then (at-feed .before .before .before .before .before .before .before .before .before .loop .inv .0) (at-feed .feed .ensures .taken .streams .kept)) .minValues .asLong
 
 same-length-7 : tie.Need-same-length-7 Inv-loop μ-loop
 same-length-7 c =
-    let at-feed = c .before .before .before .before .before .before .before .before .before .before .before .before .before .before .before in
-    let at-loop = at-feed .before .before .before .before .before .before .before .before .before in
-    at-feed .feed .kept .1 .1 .1 .1 .1 .1 .1 .1 .1 .0 ∙ at-loop .loop .inv .1
+    let at-feed = c .before .before .before .before .before .before .before .before .before .before .before .before .before .before .before .before .before in
+    at-feed .feed .kept .1 .1 .1 .1 .1 .1 .1 .1 .1 .0 ∙ at-feed .before .before .before .before .before .before .before .before .before .loop .inv .1
 
 returns : tie.Need-returns Inv-loop μ-loop
-unfolding ChunkFed
-returns c = tt
-
-same-length-8 : tie.Need-same-length-8 Inv-loop μ-loop
-same-length-8 c =
-    let at-feed = c .before .before .before .before .before .before .before .before .before .before .before .before .before .before .before .before in
-    let at-loop = at-feed .before .before .before .before .before .before .before .before .before in
-    (tables-then (at-loop .loop .inv .0) (at-feed .feed .ensures .taken .streams .kept)) .starts .asLong
-
-same-length-9 : tie.Need-same-length-9 Inv-loop μ-loop
-same-length-9 c =
-    let at-feed = c .before .before .before .before .before .before .before .before .before .before .before .before .before .before .before .before in
-    let at-loop = at-feed .before .before .before .before .before .before .before .before .before in
-    (tables-then (at-loop .loop .inv .0) (at-feed .feed .ensures .taken .streams .kept)) .sums .asLong
-
-same-length-10 : tie.Need-same-length-10 Inv-loop μ-loop
-same-length-10 c =
-    let at-feed = c .before .before .before .before .before .before .before .before .before .before .before .before .before .before .before .before in
-    let at-loop = at-feed .before .before .before .before .before .before .before .before .before in
-    (tables-then (at-loop .loop .inv .0) (at-feed .feed .ensures .taken .streams .kept)) .maxStarts .asLong
-
-same-length-11 : tie.Need-same-length-11 Inv-loop μ-loop
-same-length-11 c =
-    let at-feed = c .before .before .before .before .before .before .before .before .before .before .before .before .before .before .before .before in
-    let at-loop = at-feed .before .before .before .before .before .before .before .before .before in
-    (tables-then (at-loop .loop .inv .0) (at-feed .feed .ensures .taken .streams .kept)) .maxValues .asLong
-
-same-length-12 : tie.Need-same-length-12 Inv-loop μ-loop
-same-length-12 c =
-    let at-feed = c .before .before .before .before .before .before .before .before .before .before .before .before .before .before .before .before in
-    let at-loop = at-feed .before .before .before .before .before .before .before .before .before in
-    (tables-then (at-loop .loop .inv .0) (at-feed .feed .ensures .taken .streams .kept)) .minStarts .asLong
-
-same-length-13 : tie.Need-same-length-13 Inv-loop μ-loop
-same-length-13 c =
-    let at-feed = c .before .before .before .before .before .before .before .before .before .before .before .before .before .before .before .before in
-    let at-loop = at-feed .before .before .before .before .before .before .before .before .before in
-    (tables-then (at-loop .loop .inv .0) (at-feed .feed .ensures .taken .streams .kept)) .minValues .asLong
-
-same-length-14 : tie.Need-same-length-14 Inv-loop μ-loop
-same-length-14 c =
-    let at-feed = c .before .before .before .before .before .before .before .before .before .before .before .before .before .before .before .before in
-    let at-loop = at-feed .before .before .before .before .before .before .before .before .before in
-    at-feed .feed .kept .1 .1 .1 .1 .1 .1 .1 .1 .1 .0 ∙ at-loop .loop .inv .1
-
-returns-2 : tie.Need-returns-2 Inv-loop μ-loop
-returns-2 c =
-    let at-feed = c .before .before .before .before .before .before .before .before .before .before .before .before .before .before .before .before in
+returns c =
+    let at-write = c .before in
+    let at-next = at-write .before .before .before in
+    let at-feed = at-next .before .before .before .before .before .before .before .before .before .before .before .before .before in
     let at-loop = at-feed .before .before .before .before .before .before .before .before .before in
     let at-start = at-loop .before .before .before .before .before .before in
-    chunk-limit (at-start .args .chunk .now) (limit-stopped (omega (arith, at-start .pre, at-loop .loop .inv .1)) (at-feed .before .before .before .before .before .before .before .before .loop-test .taken) (c .if2 .taken) (at-loop .loop .inv .3) (at-feed .feed .ensures))
+    stopped (at-start .args .chunk .now) (at-write .before .write-all .result) _ _ (at-write .after-write .result)
+    (at-write .after-write .ensures ∙ ap (afterWrite (at-write .before .write-all .result)) (at-next .after-feed .ensures)) (c .match .keys2)
+    (λ still.
+    limit-stopped (omega (arith, at-start .pre, at-loop .loop .inv .1)) (at-feed .before .before .before .before .before .before .before .before .loop-test .taken) still (at-loop .loop .inv .3) (at-feed .feed .ensures))
 
 loop-less : tie.Need-loop-less Inv-loop μ-loop
 loop-less c =
-    let at-read-chunk = c .before .before .before .before .before .before .before .before .before .before .before .before .before .before .before .before .before .before .before .before .before .before .before .before in
-    omega (arith, c .if2 .left, at-read-chunk .loop-test .taken)
+    let at-write = c .before .before in
+    let at-next = at-write .before .before .before in
+    let at-feed = at-next .before .before .before .before .before .before .before .before .before .before .before .before .before in
+    let taken =
+    went-on (at-write .before .write-all .result) (at-feed .before .before .before .before .before .before .before .before .before .loop .from) (at-feed .feed .result .to) (at-write .after-write .result)
+    (at-write .after-write .ensures ∙ ap (afterWrite (at-write .before .write-all .result)) (at-next .after-feed .ensures)) (c .enum-told .given .1)
+    in
+    omega (arith, taken, at-feed .before .before .before .before .before .before .before .before .loop-test .taken)
 
 loop-again : tie.Need-loop-again Inv-loop μ-loop
 loop-again c =
-    let at-feed = c .before .before .before .before .before .before .before .before .before .before .before .before .before .before .before .before in
+    let at-feed = c .before .before .before .before .before .before .before .before .before .before .before .before .before .before .before .before .before .before in
     let at-loop = at-feed .before .before .before .before .before .before .before .before .before in
     let fed = at-feed .feed .ensures in
     (tables-then (at-loop .loop .inv .0) (fed .taken .streams .kept), at-feed .feed .kept .1 .1 .1 .1 .1 .1 .1 .1 .1 .0 ∙ at-loop .loop .inv .1, fed .taken .inside (at-loop .loop .inv .2), carries-next (at-loop .loop .inv .2) (at-loop .loop .inv .3) fed)
 
-same-length-15 : tie.Need-same-length-15 Inv-loop μ-loop
-same-length-15 c = c .before .loop .inv .0 .starts .asLong
+same-length-8 : tie.Need-same-length-8 Inv-loop μ-loop
+same-length-8 c = c .before .loop .inv .0 .starts .asLong
 
-same-length-16 : tie.Need-same-length-16 Inv-loop μ-loop
-same-length-16 c = c .before .loop .inv .0 .sums .asLong
+same-length-9 : tie.Need-same-length-9 Inv-loop μ-loop
+same-length-9 c = c .before .loop .inv .0 .sums .asLong
 
-same-length-17 : tie.Need-same-length-17 Inv-loop μ-loop
-same-length-17 c = c .before .loop .inv .0 .maxStarts .asLong
+same-length-10 : tie.Need-same-length-10 Inv-loop μ-loop
+same-length-10 c = c .before .loop .inv .0 .maxStarts .asLong
 
-same-length-18 : tie.Need-same-length-18 Inv-loop μ-loop
-same-length-18 c = c .before .loop .inv .0 .maxValues .asLong
+same-length-11 : tie.Need-same-length-11 Inv-loop μ-loop
+same-length-11 c = c .before .loop .inv .0 .maxValues .asLong
 
-same-length-19 : tie.Need-same-length-19 Inv-loop μ-loop
-same-length-19 c = c .before .loop .inv .0 .minStarts .asLong
+same-length-12 : tie.Need-same-length-12 Inv-loop μ-loop
+same-length-12 c = c .before .loop .inv .0 .minStarts .asLong
 
-same-length-20 : tie.Need-same-length-20 Inv-loop μ-loop
-same-length-20 c = c .before .loop .inv .0 .minValues .asLong
+same-length-13 : tie.Need-same-length-13 Inv-loop μ-loop
+same-length-13 c = c .before .loop .inv .0 .minValues .asLong
 
-same-length-21 : tie.Need-same-length-21 Inv-loop μ-loop
-same-length-21 c = c .before .loop .inv .1
+same-length-14 : tie.Need-same-length-14 Inv-loop μ-loop
+same-length-14 c = c .before .loop .inv .1
 
-returns-3 : tie.Need-returns-3 Inv-loop μ-loop
-returns-3 c =
+returns-2 : tie.Need-returns-2 Inv-loop μ-loop
+returns-2 c =
     let at-start = c .before .before .before .before .before .before .before in
     chunk-fed (carries-all (at-start .args .chunk .now) _ (c .loop-test .left) (c .before .loop .inv .3))
 
@@ -188,9 +156,12 @@ feed-chunk-spec =
     μ-loop
     loop-holds
     feed-requires
+    after-feed-requires
     slice-reshare-prefix-write-all
     slice-aggregate-write-all
     write-all-requires
+    after-write-requires
+    enum-told
     same-length
     same-length-2
     same-length-3
@@ -199,6 +170,8 @@ feed-chunk-spec =
     same-length-6
     same-length-7
     returns
+    loop-less
+    loop-again
     same-length-8
     same-length-9
     same-length-10
@@ -206,14 +179,4 @@ feed-chunk-spec =
     same-length-12
     same-length-13
     same-length-14
-    returns-2
-    loop-less
-    loop-again
-    same-length-15
-    same-length-16
-    same-length-17
-    same-length-18
-    same-length-19
-    same-length-20
-    same-length-21
-    returns-3)
+    returns-2)

@@ -1,15 +1,14 @@
--- `read_all` meets its contract: some bytes were fed, and at each turn some more. The lengths stay. The measure is how
--- many reads are left. Assumes nothing.
+-- `read_all` meets its contract: all that the reads brought so far was fed. The lengths stay. The measure is how many
+-- reads are left. Assumes nothing.
 use native.Mathlib.Omega.{arith}
 use mathlib.Core.Path.{_≡_, refl, _∙_}
 use lib.ListN.{length}
 use borrow.Author.Needs.{needs}
 use Rattle.engine.specs.Tables.{tables}
 use Rattle.session.specs.Contracts.{held}
-use Prim.Native.Nat.{ℕ, _-_}
-use Rattle.session.specs.Whole.{CarriesSome}
-use Rattle.session.proofs.Composing.{some-none}
-use Rattle.pchelodar.proofs.Composing.{read-more, read-last, reads-spent}
+use Prim.Native.Nat.{ℕ, _-_, _≤_}
+use Rattle.pchelodar.specs.Contracts.{ReadsFed}
+use Rattle.pchelodar.proofs.Composing.{reads-none, read-more, read-last, reads-spent}
 use Rattle.pchelodar.proofs.read_all.Statement.{statement}
 use Rattle.pchelodar.proofs.read_all.Tie as tie
 
@@ -20,21 +19,25 @@ readLimit = 18446744073709551615
 abbrev Inv-loop : tie.InvT-loop
 Inv-loop starts₀ sums₀ max-starts₀ max-values₀ min-starts₀ min-values₀ chunk₀ out₀ session₀ reads₀ starts sums max-starts max-values min-starts min-values chunk out session reads =
     (length starts ≡ length starts₀) × (length sums ≡ length sums₀) × (length max-starts ≡ length max-starts₀) × (length max-values ≡ length max-values₀) × (length min-starts ≡ length min-starts₀) × (length min-values ≡ length min-values₀) × (length chunk ≡ length chunk₀) × (length out ≡ length out₀)
-    × CarriesSome (readLimit - reads) (held session₀ (tables starts₀ sums₀ max-starts₀ max-values₀ min-starts₀ min-values₀)) (held session (tables starts sums max-starts max-values min-starts min-values))
+    × (reads ≤ readLimit)
+    × ReadsFed (readLimit - reads) (held session₀ (tables starts₀ sums₀ max-starts₀ max-values₀ min-starts₀ min-values₀)) (held session (tables starts sums max-starts max-values min-starts min-values))
 
 abbrev μ-loop : tie.MeasureT-loop
 μ-loop starts₀ sums₀ max-starts₀ max-values₀ min-starts₀ min-values₀ chunk₀ out₀ held₀ reads₀ starts sums max-starts max-values min-starts min-values chunk out held reads =
     reads
 
 loop-holds : tie.Need-loop-holds Inv-loop μ-loop
-loop-holds c = (refl, refl, refl, refl, refl, refl, refl, refl, some-none _)
+loop-holds c = (refl, refl, refl, refl, refl, refl, refl, refl, omega arith, reads-none _)
 
 sub-reads : tie.Need-sub-reads Inv-loop μ-loop
 sub-reads c = omega arith
 
-read-chunk-requires : tie.Need-read-chunk-requires Inv-loop μ-loop
-read-chunk-requires c κs =
-    let at-loop = c .before .before .before .before .before .before .before .before .before in
+read-requires : tie.Need-read-requires Inv-loop μ-loop
+read-requires c κs = search needs
+
+after-read-requires : tie.Need-after-read-requires Inv-loop μ-loop
+after-read-requires c κs =
+    let at-loop = c .before .before .before .before .before .before .before .before .before .before .before .before .before in
     let at-start = at-loop .before .before .before .before .before .before in
     omega (arith, at-start .pre, at-loop .loop .inv .7)
 
@@ -42,67 +45,77 @@ enum-told : tie.Need-enum-told Inv-loop μ-loop
 enum-told c = search needs
 
 loop-less : tie.Need-loop-less Inv-loop μ-loop
-loop-less c = omega arith
+loop-less c = omega (arith, c .before .before .before .before .before .before .before .before .before .before .before .before .before .before .before .before .before .before .before .before .before .before .before .before .before .before .before .loop-test .taken)
 
 loop-again : tie.Need-loop-again Inv-loop μ-loop
 loop-again c =
-    let at-read-chunk = c .before .before .before .before .before .before .before .before .before .before .before .before .before .before .before .before in
-    let at-loop = at-read-chunk .before .before .before .before .before .before .before .before .before .before in
-    (at-read-chunk .read-chunk .kept .1 .0 ∙ at-loop .loop .inv .0, at-read-chunk .read-chunk .kept .1 .1 .0 ∙ at-loop .loop .inv .1, at-read-chunk .read-chunk .kept .1 .1 .1 .0 ∙ at-loop .loop .inv .2, at-read-chunk .read-chunk .kept .1 .1 .1 .1 .0 ∙ at-loop .loop .inv .3, at-read-chunk .read-chunk .kept .1 .1 .1 .1 .1 .0 ∙ at-loop .loop .inv .4, at-read-chunk .read-chunk .kept .1 .1 .1 .1 .1 .1 .0 ∙ at-loop .loop .inv .5, at-read-chunk .read-chunk .kept .1 .1 .1 .1 .1 .1 .1 .0 ∙ at-loop .loop .inv .6, at-read-chunk .read-chunk .kept .1 .1 .1 .1 .1 .1 .1 .1 .0 ∙ at-loop .loop .inv .7, read-more _ _ (omega arith) (c .enum-told .given .1) (at-loop .loop .inv .8) (at-read-chunk .read-chunk .ensures))
+    let at-after = c .before .before .before .before .before .before .before .before .before .before .before .before .before .before in
+    let at-read = at-after .before .before .before .before .before .before .before .before .before .before .before in
+    let at-loop = at-read .before .before .before in
+    (at-after .after-read .kept .1 .1 .0 ∙ at-loop .loop .inv .0, at-after .after-read .kept .1 .1 .1 .0 ∙ at-loop .loop .inv .1, at-after .after-read .kept .1 .1 .1 .1 .0 ∙ at-loop .loop .inv .2, at-after .after-read .kept .1 .1 .1 .1 .1 .0 ∙ at-loop .loop .inv .3, at-after .after-read .kept .1 .1 .1 .1 .1 .1 .0 ∙ at-loop .loop .inv .4, at-after .after-read .kept .1 .1 .1 .1 .1 .1 .1 .0 ∙ at-loop .loop .inv .5, at-read .read .kept .1 .0 ∙ at-loop .loop .inv .6, at-after .after-read .kept .1 .1 .1 .1 .1 .1 .1 .1 .1 .0 ∙ at-loop .loop .inv .7, omega (arith, at-loop .loop .inv .8), read-more _ _ (omega (arith, at-loop .loop .inv .8)) (c .enum-told .given .1) (at-loop .loop .inv .9) (at-after .after-read .ensures))
 
 same-length : tie.Need-same-length Inv-loop μ-loop
 same-length c =
-    let at-read-chunk = c .before .before .before .before .before .before .before .before .before .before .before .before .before .before .before in
-    let at-loop = at-read-chunk .before .before .before .before .before .before .before .before .before .before in
-    at-read-chunk .read-chunk .kept .1 .0 ∙ at-loop .loop .inv .0
+    let at-after = c .before .before .before .before .before .before .before .before .before .before .before .before .before in
+    let at-read = at-after .before .before .before .before .before .before .before .before .before .before .before in
+    let at-loop = at-read .before .before .before in
+    at-after .after-read .kept .1 .1 .0 ∙ at-loop .loop .inv .0
 
 same-length-2 : tie.Need-same-length-2 Inv-loop μ-loop
 same-length-2 c =
-    let at-read-chunk = c .before .before .before .before .before .before .before .before .before .before .before .before .before .before .before in
-    let at-loop = at-read-chunk .before .before .before .before .before .before .before .before .before .before in
-    at-read-chunk .read-chunk .kept .1 .1 .0 ∙ at-loop .loop .inv .1
+    let at-after = c .before .before .before .before .before .before .before .before .before .before .before .before .before in
+    let at-read = at-after .before .before .before .before .before .before .before .before .before .before .before in
+    let at-loop = at-read .before .before .before in
+    at-after .after-read .kept .1 .1 .1 .0 ∙ at-loop .loop .inv .1
 
 same-length-3 : tie.Need-same-length-3 Inv-loop μ-loop
 same-length-3 c =
-    let at-read-chunk = c .before .before .before .before .before .before .before .before .before .before .before .before .before .before .before in
-    let at-loop = at-read-chunk .before .before .before .before .before .before .before .before .before .before in
-    at-read-chunk .read-chunk .kept .1 .1 .1 .0 ∙ at-loop .loop .inv .2
+    let at-after = c .before .before .before .before .before .before .before .before .before .before .before .before .before in
+    let at-read = at-after .before .before .before .before .before .before .before .before .before .before .before in
+    let at-loop = at-read .before .before .before in
+    at-after .after-read .kept .1 .1 .1 .1 .0 ∙ at-loop .loop .inv .2
 
 same-length-4 : tie.Need-same-length-4 Inv-loop μ-loop
 same-length-4 c =
-    let at-read-chunk = c .before .before .before .before .before .before .before .before .before .before .before .before .before .before .before in
-    let at-loop = at-read-chunk .before .before .before .before .before .before .before .before .before .before in
-    at-read-chunk .read-chunk .kept .1 .1 .1 .1 .0 ∙ at-loop .loop .inv .3
+    let at-after = c .before .before .before .before .before .before .before .before .before .before .before .before .before in
+    let at-read = at-after .before .before .before .before .before .before .before .before .before .before .before in
+    let at-loop = at-read .before .before .before in
+    at-after .after-read .kept .1 .1 .1 .1 .1 .0 ∙ at-loop .loop .inv .3
 
 same-length-5 : tie.Need-same-length-5 Inv-loop μ-loop
 same-length-5 c =
-    let at-read-chunk = c .before .before .before .before .before .before .before .before .before .before .before .before .before .before .before in
-    let at-loop = at-read-chunk .before .before .before .before .before .before .before .before .before .before in
-    at-read-chunk .read-chunk .kept .1 .1 .1 .1 .1 .0 ∙ at-loop .loop .inv .4
+    let at-after = c .before .before .before .before .before .before .before .before .before .before .before .before .before in
+    let at-read = at-after .before .before .before .before .before .before .before .before .before .before .before in
+    let at-loop = at-read .before .before .before in
+    at-after .after-read .kept .1 .1 .1 .1 .1 .1 .0 ∙ at-loop .loop .inv .4
 
 same-length-6 : tie.Need-same-length-6 Inv-loop μ-loop
 same-length-6 c =
-    let at-read-chunk = c .before .before .before .before .before .before .before .before .before .before .before .before .before .before .before in
-    let at-loop = at-read-chunk .before .before .before .before .before .before .before .before .before .before in
-    at-read-chunk .read-chunk .kept .1 .1 .1 .1 .1 .1 .0 ∙ at-loop .loop .inv .5
+    let at-after = c .before .before .before .before .before .before .before .before .before .before .before .before .before in
+    let at-read = at-after .before .before .before .before .before .before .before .before .before .before .before in
+    let at-loop = at-read .before .before .before in
+    at-after .after-read .kept .1 .1 .1 .1 .1 .1 .1 .0 ∙ at-loop .loop .inv .5
 
 same-length-7 : tie.Need-same-length-7 Inv-loop μ-loop
 same-length-7 c =
-    let at-read-chunk = c .before .before .before .before .before .before .before .before .before .before .before .before .before .before .before in
-    let at-loop = at-read-chunk .before .before .before .before .before .before .before .before .before .before in
-    at-read-chunk .read-chunk .kept .1 .1 .1 .1 .1 .1 .1 .0 ∙ at-loop .loop .inv .6
+    let at-after = c .before .before .before .before .before .before .before .before .before .before .before .before .before in
+    let at-read = at-after .before .before .before .before .before .before .before .before .before .before .before in
+    let at-loop = at-read .before .before .before in
+    at-read .read .kept .1 .0 ∙ at-loop .loop .inv .6
 
 same-length-8 : tie.Need-same-length-8 Inv-loop μ-loop
 same-length-8 c =
-    let at-read-chunk = c .before .before .before .before .before .before .before .before .before .before .before .before .before .before .before in
-    let at-loop = at-read-chunk .before .before .before .before .before .before .before .before .before .before in
-    at-read-chunk .read-chunk .kept .1 .1 .1 .1 .1 .1 .1 .1 .0 ∙ at-loop .loop .inv .7
+    let at-after = c .before .before .before .before .before .before .before .before .before .before .before .before .before in
+    let at-read = at-after .before .before .before .before .before .before .before .before .before .before .before in
+    let at-loop = at-read .before .before .before in
+    at-after .after-read .kept .1 .1 .1 .1 .1 .1 .1 .1 .1 .0 ∙ at-loop .loop .inv .7
 
 returns : tie.Need-returns Inv-loop μ-loop
 returns c =
-    let at-read-chunk = c .before .before .before .before .before .before .before .before .before .before .before .before .before .before .before in
-    let at-loop = at-read-chunk .before .before .before .before .before .before .before .before .before .before in
-    read-last _ _ (at-read-chunk .read-chunk .result .progress) (c .match .keys2) (at-loop .loop .inv .8) (at-read-chunk .read-chunk .ensures)
+    let at-after = c .before .before .before .before .before .before .before .before .before .before .before .before .before in
+    let at-read = at-after .before .before .before .before .before .before .before .before .before .before .before in
+    let at-loop = at-read .before .before .before in
+    read-last _ _ (at-after .after-read .result .progress) (c .match .keys2) (at-loop .loop .inv .9) (at-after .after-read .ensures)
 
 same-length-9 : tie.Need-same-length-9 Inv-loop μ-loop
 same-length-9 c = c .before .loop .inv .0
@@ -129,7 +142,7 @@ same-length-16 : tie.Need-same-length-16 Inv-loop μ-loop
 same-length-16 c = c .before .loop .inv .7
 
 returns-2 : tie.Need-returns-2 Inv-loop μ-loop
-returns-2 c = reads-spent (omega (arith, c .loop-test .left)) (c .before .loop .inv .8)
+returns-2 c = reads-spent (omega (arith, c .loop-test .left)) (c .before .loop .inv .9)
 
 pub read-all-spec : {M : Type 1} → statement M
 read-all-spec =
@@ -139,7 +152,8 @@ read-all-spec =
     μ-loop
     loop-holds
     sub-reads
-    read-chunk-requires
+    read-requires
+    after-read-requires
     enum-told
     loop-less
     loop-again

@@ -1,0 +1,87 @@
+-- `after_read` meets its contract: by what the read returned, nothing changes, or just what it brought is fed. Assumes
+-- nothing.
+use native.Mathlib.Omega.{arith}
+use mathlib.Core.Path.{_≡_, sym, ap, _∙_}
+use lib.IntN.{ℤ, pos}
+use lib.ListN.{length}
+use lib.Signed.{ltZ}
+use mir.Syntax.{w64}
+use mir.Val.{toZ, ofZ}
+use mir.Facts.{toZ-ofZ}
+use borrow.Author.Needs.{needs}
+use Rattle.io.specs.Counts.{clamped}
+use Rattle.pchelodar.proofs.Composing.{read-failed, read-ended, read-some}
+use Rattle.pchelodar.proofs.after_read.Statement.{statement}
+use Rattle.pchelodar.proofs.after_read.Tie as tie
+
+-- the test, of the number itself
+below-is : (s : tie.Start) → ltZ (toZ w64 (ofZ w64 (s .args .got))) (pos 0) ≡ ltZ (s .args .got) (pos 0)
+below-is s = ap (λ (z : ℤ). ltZ z (pos 0)) (toZ-ofZ (s .fits .got))
+
+-- and the count that is made of it
+clamped-is : (s : tie.Start) → clamped (toZ w64 (ofZ w64 (s .args .got))) (length (s .args .chunk .now)) ≡ clamped (s .args .got) (length (s .args .chunk .now))
+clamped-is s = ap (λ (z : ℤ). clamped z (length (s .args .chunk .now))) (toZ-ofZ (s .fits .got))
+
+returns : tie.Need-returns
+returns c = let s = c .before .before .before .before .before .before in read-failed (s .args .got) (s .args .chunk .now) _ (sym (below-is s) ∙ c .if1 .taken)
+
+count-requires : tie.Need-count-requires
+count-requires c κs = search needs
+
+returns-2 : tie.Need-returns-2
+returns-2 c =
+    let s = c .before .before .before .before .before .before .before .before in
+    read-ended (s .args .got) (s .args .chunk .now) _ (sym (below-is s) ∙ c .before .before .if1 .left) (sym (clamped-is s) ∙ sym (c .before .count .ensures .1) ∙ c .if2 .taken)
+
+slice-aggregate-feed-chunk : tie.Need-slice-aggregate-feed-chunk
+slice-aggregate-feed-chunk c = search needs
+
+feed-chunk-requires : tie.Need-feed-chunk-requires
+feed-chunk-requires c κs = search needs
+
+same-length : tie.Need-same-length
+same-length c = search needs
+
+same-length-2 : tie.Need-same-length-2
+same-length-2 c = search needs
+
+same-length-3 : tie.Need-same-length-3
+same-length-3 c = search needs
+
+same-length-4 : tie.Need-same-length-4
+same-length-4 c = search needs
+
+same-length-5 : tie.Need-same-length-5
+same-length-5 c = search needs
+
+same-length-6 : tie.Need-same-length-6
+same-length-6 c = search needs
+
+same-length-7 : tie.Need-same-length-7
+same-length-7 c = search needs
+
+returns-3 : tie.Need-returns-3
+returns-3 c =
+    let at-feed = c .before .before .before .before .before .before .before .before .before .before .before in
+    let at-count = at-feed .before .before .before .before .before .before .before .before .before .before in
+    let s = at-count .before .before .before .before .before .before .before in
+    read-some (s .args .got) (s .args .chunk .now) (at-count .count .result) (sym (below-is s) ∙ at-count .before .if1 .left) (at-count .count .ensures .1 ∙ clamped-is s)
+    (omega (arith, at-feed .before .before .before .before .before .before .before .before .before .if2 .left)) (at-feed .feed-chunk .ensures)
+
+pub after-read-spec : {M : Type 1} → statement M
+after-read-spec =
+    tie.close
+    (tie.spec
+    returns
+    count-requires
+    returns-2
+    slice-aggregate-feed-chunk
+    feed-chunk-requires
+    same-length
+    same-length-2
+    same-length-3
+    same-length-4
+    same-length-5
+    same-length-6
+    same-length-7
+    returns-3)
