@@ -1,26 +1,39 @@
 /* The engine of Pchelodar for C: sliding windows over one feed of readings, shared by up to 32 queries.
  *
- * Link libpchelodar_c.a, which `rt staticlib pchelodar_c` proves and writes (x86-64 Linux). The library allocates nothing, keeps nothing between two calls and calls
- * nothing but memcpy and memset: everything that it knows stands in slices that the caller lends to each call, a pointer and a number of places. The same slices go to every call, as the call before left them.
+ * Link libpchelodar_c.a, which `rt staticlib pchelodar_c` proves and writes (x86-64 Linux). The library allocates
+ * nothing, keeps nothing between two calls and calls nothing but memcpy and memset: everything that it knows stands in
+ * slices that the caller lends to each call, a pointer and a number of places. The same slices go to every call, as the
+ * call before left them.
  *
  *   slice        places         what stands there
  *   state        18 or more     the counts, the open partial and the rings: the library's own layout
- *   queries      160 or more    32 records of 5 numbers each (struct pchelodar_query): the registered queries first, in order of registration; an unused record is all 0
- *   starts       4,096 or more  starts of closed partials
- *   sums         4,096 or more  sums of closed partials
+ *   queries      160 or more    32 records of 5 numbers each (struct pchelodar_query): the registered queries first, in
+ *                               order of registration; an unused record is all 0
+ *   starts       4,096 or more  starts of closed partials; as each table, a ring over its first 4,096 places
+ *   sums         4,096 or more  sums by laps: at place p the sum of the partials at the places before p, of the same
+ *                               lap of the ring; it is not the sum of the partial at p
  *   max_starts   4,096 or more  starts of the partials that stand for maxima
  *   max_values   4,096 or more  their values
  *   min_starts   4,096 or more  starts of the partials that stand for minima
  *   min_values   4,096 or more  their values
  *
- * Only the first 18, 160 and 4,096 places are ever written. A start may be made on any content; no other call may come first.
+ * Only the first 18, 160 and 4,096 places are ever written. A start may be made on any content; no other call may come
+ * first.
  *
- * Every function returns 0 where the call is accepted, and else the number of the refusal (PCHELODAR_..). A refused call changes nothing: no number of the state, no record, no place of a
- * table, no answer place, no number of answers and no total. The checks go in the order of the numbers; the first that applies decides.
+ * Every function returns 0 where the call is accepted, and else the number of the refusal (PCHELODAR_..). A refused
+ * call changes nothing: no number of the state, no record, no place of a table, no answer place, no number of answers
+ * and no total. The checks go in the order of the numbers; the first that applies decides.
  *
- * What the caller must see to, since nothing can check it: a pointer is not null (also where its number of places is 0), is aligned for its type and has as many places as the call says; the
- * slices of one call do not overlap; no two calls use the same slices at one time. Nothing else is asked: every content of every slice is taken, and what did not come from a start by
- * these calls is refused with 2 or does no harm. */
+ * What the caller must see to, since nothing can check it: a pointer is not null (also where its number of places is
+ * 0), is aligned for its type and has as many places as the call says; the slices of one call do not overlap; no two
+ * calls use the same slices at one time.
+ *
+ * Of the content of the slices nothing is asked. Where it did not come from a start by these calls, nothing undefined
+ * happens, and nothing is written but the places above, the answers' own, `answered` and `totals`. Every call but start
+ * is refused with 2 where more than 32 queries are counted, a used record has a field that register refuses (3 to 6) or
+ * an origin above the count of readings, two used records have one number, or numbers of the state are outside their
+ * bounds. Other damage may pass: calls are accepted then, and answers may be wrong. So a copy of the slices that is
+ * kept, to go on from it later, wants a checksum of the caller's own. */
 #ifndef PCHELODAR_H
 #define PCHELODAR_H
 
@@ -58,7 +71,8 @@ extern "C" {
 #define PCHELODAR_COUNT_EXHAUSTED 10  /* 4,294,967,295 readings were taken */
 #define PCHELODAR_ANSWERS_TOO_SHORT 11 /* fewer than 4 places for each query that is due */
 
-/* One record of the query list: five numbers of it stand at `queries`. An array of 32 records can be lent as (&records[0].number, 160). */
+/* One record of the query list: five numbers of it stand at `queries`. An array of 32 records can be lent as
+ * (&records[0].number, 160). */
 struct pchelodar_query {
     uint32_t number;
     uint32_t kind;
@@ -67,7 +81,8 @@ struct pchelodar_query {
     uint32_t origin; /* the count of readings at which it was registered */
 };
 
-/* Start: no reading, no query, totals 0. It writes the state, the 32 records, and 0 to the first 4,096 places of each table.
+/* Start: no reading, no query, totals 0. It writes the state, the 32 records, and 0 to the first 4,096 places of each
+ * table.
  * Refused with 1. */
 uint32_t pchelodar_start(
     uint64_t *state, size_t state_places,
@@ -79,7 +94,8 @@ uint32_t pchelodar_start(
     uint32_t *min_starts, size_t min_starts_places,
     int32_t *min_values, size_t min_values_places);
 
-/* Register: the query joins the end of the list. Its windows hold readings taken from now on: it is due whenever `slide` more were taken, and its window holds the last `range` of them.
+/* Register: the query joins the end of the list. Its windows hold readings taken from now on: it is due whenever
+ * `slide` more were taken, and its window holds the last `range` of them.
  * Refused with 1, 2, and 3 to 8. */
 uint32_t pchelodar_register(
     uint64_t *state, size_t state_places,
@@ -105,9 +121,10 @@ uint32_t pchelodar_withdraw(
     const int32_t *min_values, size_t min_values_places,
     uint32_t number);
 
-/* Reading: it is counted, and the queries that are due are answered in order of registration, four places each from the first place of `answers` on: the query's number, its kind, the count of
- * readings in its window (fewer than its range while it fills), the value. No other place of `answers` is written. The number of answers, 0 to 32, is written to `answered`. 128 answer places are always enough.
- * The query list is only read.
+/* Reading: it is counted, and the queries that are due are answered in order of registration, four places each from the
+ * first place of `answers` on: the query's number, its kind, the count of readings in its window (fewer than its range
+ * while it fills), the value. No other place of `answers` is written. The number of answers, 0 to 32, is written to
+ * `answered`. 128 answer places are always enough. The query list is only read.
  * Refused with 1, 2, 10 and 11. */
 uint32_t pchelodar_reading(
     uint64_t *state, size_t state_places,
@@ -122,7 +139,8 @@ uint32_t pchelodar_reading(
     size_t *answered,
     int32_t value);
 
-/* Totals: the readings taken, the partials closed, and the comparisons of partials for maxima and for minima are written to `totals`, in this order. Everything else is only read.
+/* Totals: the readings taken, the partials closed, and the comparisons of partials for maxima and for minima are
+ * written to `totals`, in this order. Everything else is only read.
  * Refused with 1 and 2. */
 uint32_t pchelodar_totals(
     const uint64_t *state, size_t state_places,
