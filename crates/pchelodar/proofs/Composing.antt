@@ -21,7 +21,7 @@ use Rattle.session.proofs.Composing.{carries-nothing, carries-then, limit-many,
 use Rattle.pchelodar.specs.declared.Progress.{Progress}
 use Rattle.pchelodar.specs.declared.Progress.the-variants as progress
 use Rattle.pchelodar.proofs.Progress.{the-type}
-use Rattle.pchelodar.specs.Contracts.{afterWrite, afterFeed, ChunkFed, Read, readOf, size, brought, Failed, Ended, AfterRead, Reads, none, next, ReadsFed, FedUntil, AllRead, ReachedUntil, Handed, RanReads, Concluded, WholeRun}
+use Rattle.pchelodar.specs.Contracts.{afterWrite, afterFeed, ChunkFed, Read, readOf, size, brought, Failed, Ended, AfterRead, Intake, none, next, ReadsFed, FedUntil, AllRead, ReachedUntil, Handed, RanReads, Concluded, WholeRun}
 
 -- ---- what a write said
 
@@ -87,7 +87,7 @@ read-some got buffer count {h} {h′} {p} e c l f =
 -- ---- all reads
 
 -- each read brought a byte
-reads-many : {n : ℕ} {bytes : List ℕ} → Reads n bytes → n ≤ length bytes
+reads-many : {n : ℕ} {bytes : List ℕ} → Intake n bytes → n ≤ length bytes
 reads-many none = omega arith
 reads-many (next {n} {bytes} reads r some) =
     omega (arith, reads-many reads, length-append bytes (brought r), length-take (size r) (r .buffer), within (r .got), some)

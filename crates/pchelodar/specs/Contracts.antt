@@ -74,14 +74,14 @@ pub record AfterRead (r : Read) (h h′ : Held) (p : Progress) : Type 0 where
 -- ---- all reads
 
 -- so many reads, one after the other, each of which brought a byte or more: all bytes that they brought, in order
-pub data Reads : ℕ → List ℕ → Type 0 where
-  none : Reads 0 []
-  next : {n : ℕ} {bytes : List ℕ} → Reads n bytes → (r : Read) → 0 < size r → Reads (n + 1) (bytes ++ brought r)
+pub data Intake : ℕ → List ℕ → Type 0 where
+  none : Intake 0 []
+  next : {n : ℕ} {bytes : List ℕ} → Intake n bytes → (r : Read) → 0 < size r → Intake (n + 1) (bytes ++ brought r)
 
 -- from one to the other all bytes that so many reads brought were fed
 pub record ReadsFed (n : ℕ) (h h′ : Held) : Type 0 where
   pub bytes : List ℕ
-  pub reads : Reads n bytes
+  pub reads : Intake n bytes
   pub carries : Carries bytes h h′
 
 -- the same of some reads, after which one came to an end
@@ -104,7 +104,7 @@ AllRead h h′ progress.TooLong = CarriesLimit h h′
 pub record ReachedUntil (End : Read → Type 0) (lent : Tables) (h : Held) : Type 0 where
   pub number : ℕ
   pub bytes : List ℕ
-  pub reads : Reads number bytes
+  pub reads : Intake number bytes
   pub last : Read
   pub ends : End last
   pub reached : Reached lent bytes h
@@ -124,7 +124,7 @@ Handed lent h progress.TooLong = ReachedLimit lent h
 pub record RanReads (lent left : Tables) (new : List ℕ) : Type 0 where
   pub number : ℕ
   pub bytes : List ℕ
-  pub reads : Reads number bytes
+  pub reads : Intake number bytes
   pub last : Read
   pub ended : Ended last
   pub ran : RanAll bytes lent left new

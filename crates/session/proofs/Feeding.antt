@@ -29,7 +29,7 @@ use Rattle.print.proofs.Putting.{put-none, put-then, put-as, puts-none, puts-th
 use Rattle.session.specs.declared.kept.Kept.{Kept}
 use Rattle.session.specs.declared.stream.Session.{Session}
 use Rattle.session.specs.Meaning.{answerTable, lineStep, printed, lineRoom}
-use Rattle.session.specs.Stream.{Running, Streamed, lineEnded, extended, fed, following, fedAll, keptLength, keptLine}
+use Rattle.session.specs.Stream.{Running, Streamed, lineEnded, lineExtended, fed, following, fedAll, keptLength, keptLine}
 use Rattle.session.specs.Contracts.{CallEnsures, Held, held, keeping, Shown, Says, lineLimit, LineEnsures, Streams}
 use Rattle.session.proofs.Slices.{slice-is, slice-then}
 use Rattle.session.proofs.Streaming.{fed-append}
@@ -90,11 +90,11 @@ module _ (s : Session) (t t′ : Tables) (line : Line) (o : Answered) (places : 
 
 -- ---- bytes without an end of line
 
-extended-none : (r : Running) → fedAll r [] ≡ extended r []
+extended-none : (r : Running) → fedAll r [] ≡ lineExtended r []
 extended-none r = ap (λ (l : List ℕ). record { running = record { position = r .position; line = l }; text = [] }) (sym (append-nil (r .line)))
 
 -- the bytes before the next byte 10 join the current line
-fed-until : (l : List ℕ) (r : Running) → fedAll r (take (until 10 l) l) ≡ extended r (take (until 10 l) l)
+fed-until : (l : List ℕ) (r : Running) → fedAll r (take (until 10 l) l) ≡ lineExtended r (take (until 10 l) l)
 unfolding fed
 fed-until [] r = extended-none r
 fed-until (x ∷ xs) r = go (eqb x 10) refl (fed-until xs (record { position = r .position; line = r .line ++ (x ∷ []) }))
@@ -102,11 +102,11 @@ fed-until (x ∷ xs) r = go (eqb x 10) refl (fed-until xs (record { position = r
     rest : List ℕ
     rest = take (until 10 xs) xs
 
-    go : (b : Bool) → eqb x 10 ≡ b → fedAll (record { position = r .position; line = r .line ++ (x ∷ []) }) rest ≡ extended (record { position = r .position; line = r .line ++ (x ∷ []) }) rest
-        → fedAll r (take (cond b 0 (suc (until 10 xs))) (x ∷ xs)) ≡ extended r (take (cond b 0 (suc (until 10 xs))) (x ∷ xs))
+    go : (b : Bool) → eqb x 10 ≡ b → fedAll (record { position = r .position; line = r .line ++ (x ∷ []) }) rest ≡ lineExtended (record { position = r .position; line = r .line ++ (x ∷ []) }) rest
+        → fedAll r (take (cond b 0 (suc (until 10 xs))) (x ∷ xs)) ≡ lineExtended r (take (cond b 0 (suc (until 10 xs))) (x ∷ xs))
     go true e ih = extended-none r
     go false e ih =
-        ap (λ (b : Bool). following ((cond b (lineEnded r) (extended r (x ∷ []))) .text) (fedAll ((cond b (lineEnded r) (extended r (x ∷ []))) .running) rest)) e
+        ap (λ (b : Bool). following ((cond b (lineEnded r) (lineExtended r (x ∷ []))) .text) (fedAll ((cond b (lineEnded r) (lineExtended r (x ∷ []))) .running) rest)) e
         ∙ ih
         ∙ ap (λ (l : List ℕ). record { running = record { position = r .position; line = l }; text = [] }) (append-assoc (r .line) (x ∷ []) rest)
 
@@ -145,7 +145,7 @@ module _ (chunk : List ℕ) (from to : ℕ) (is : to ≡ from + until 10 (drop f
 
   module _ (s s′ : Session) (t : Tables) (kept : Kept) (same : s′ ≡ keeping s kept) (keeps : keptLine kept ≡ take keptLength (keptLine (s .kept) ++ slice from to chunk)) where
     -- the current line is longer by these bytes
-    longer : (r : Running) → Shown r (held s t) → Shown ((extended r (slice from to chunk)) .running) (held s′ t)
+    longer : (r : Running) → Shown r (held s t) → Shown ((lineExtended r (slice from to chunk)) .running) (held s′ t)
     longer r sh =
         rw same
         (record {
@@ -154,7 +154,7 @@ module _ (chunk : List ℕ) (from to : ℕ) (is : to ≡ from + until 10 (drop f
           line = keeps ∙ ap (λ (l : List ℕ). take keptLength (l ++ slice from to chunk)) (sh .line) ∙ take-joined keptLength (r .line) (slice from to chunk);
         })
 
-    fed-part : (r : Running) → fedAll r (slice from to chunk) ≡ extended r (slice from to chunk)
+    fed-part : (r : Running) → fedAll r (slice from to chunk) ≡ lineExtended r (slice from to chunk)
     fed-part r = rw line-part (fed-until (drop from chunk) r)
 
     -- the chunk ends before the line does
@@ -174,15 +174,15 @@ module _ (chunk : List ℕ) (from to : ℕ) (is : to ≡ from + until 10 (drop f
         bytes : List ℕ
         bytes = slice from to chunk
 
-        ends : (r : Running) → fedAll r (slice from (to + 1) chunk) ≡ lineEnded ((extended r bytes) .running)
+        ends : (r : Running) → fedAll r (slice from (to + 1) chunk) ≡ lineEnded ((lineExtended r bytes) .running)
         ends r =
             ap (fedAll r) (line-byte l)
             ∙ fed-append r bytes (10 ∷ [])
             ∙ ap (λ (x : Streamed). following (x .text) (fedAll (x .running) (10 ∷ []))) (fed-part r)
-            ∙ fed-end ((extended r bytes) .running)
+            ∙ fed-end ((lineExtended r bytes) .running)
 
         says : (r : Running) → Shown r (held s t) → Says (fedAll r (slice from (to + 1) chunk)) h old at new next
-        says r sh = rw (ends r) (p .says ((extended r bytes) .running) (longer r sh))
+        says r sh = rw (ends r) (p .says ((lineExtended r bytes) .running) (longer r sh))
 
 -- ---- one after the other
 

@@ -10,7 +10,7 @@ use lib.ListN.{length}
 use Rattle.parse.specs.Fields.{onto}
 use Rattle.parse.specs.Lines.{parsed}
 use Rattle.session.specs.Meaning.{Position, lines, lineReported, linesReported, fresh, finished, totalsText, sessionOutput}
-use Rattle.session.specs.Stream.{Running, Streamed, opened, lineEnded, extended, fed, following, fedAll, ended}
+use Rattle.session.specs.Stream.{Running, Streamed, opened, lineEnded, lineExtended, fed, following, fedAll, ended}
 
 -- ---- the lines of an input, of which a first part is the current line
 
@@ -72,7 +72,7 @@ bytes-are-lines (b ∷ bs) p line = go (eqb b 10) (bytes-are-lines bs)
         ∙ sym (append-assoc ((lineEnded r) .text) ((linesReported q (lines bs)) .text) (totalsText ((linesReported q (lines bs)) .position .state)))
 
     go : (t : Bool) → ((q : Position) (l : List ℕ) → whole (fedAll (at q l) bs) ≡ finished (linesReported q (behind l (lines bs))))
-        → whole (following ((cond t (lineEnded r) (extended r (b ∷ []))) .text) (fedAll ((cond t (lineEnded r) (extended r (b ∷ []))) .running) bs))
+        → whole (following ((cond t (lineEnded r) (lineExtended r (b ∷ []))) .text) (fedAll ((cond t (lineEnded r) (lineExtended r (b ∷ []))) .running) bs))
         ≡ finished (linesReported p (behind line (cond t ([] ∷ lines bs) (onto b (lines bs)))))
     go true ih = ending (λ q. ih q []) ∙ ap (λ (l : List ℕ). finished (linesReported p (l ∷ lines bs))) (sym (append-nil line))
     go false ih = ih p (line ++ (b ∷ [])) ∙ ap (λ (ls : List (List ℕ)). finished (linesReported p ls)) (behind-onto line b (lines bs))
@@ -101,6 +101,6 @@ lines-few [] r = omega arith
 lines-few (b ∷ bs) r = go (eqb b 10) (lines-few bs)
   where
     go : (t : Bool) → ((q : Running) → (fedAll q bs) .running .position .lines ≤ q .position .lines + length bs)
-        → (fedAll ((cond t (lineEnded r) (extended r (b ∷ []))) .running) bs) .running .position .lines ≤ r .position .lines + length (b ∷ bs)
+        → (fedAll ((cond t (lineEnded r) (lineExtended r (b ∷ []))) .running) bs) .running .position .lines ≤ r .position .lines + length (b ∷ bs)
     go true ih = omega (arith, ih ((lineEnded r) .running))
-    go false ih = omega (arith, ih ((extended r (b ∷ [])) .running))
+    go false ih = omega (arith, ih ((lineExtended r (b ∷ [])) .running))

@@ -28,9 +28,9 @@ abbrev pub readingBytes : List ℕ → List ℕ
 readingBytes bytes = row 86 (bytes ∷ [])
 
 -- digits as bytes
-abbrev pub digits : List ℕ → List ℕ
-digits [] = []
-digits (d ∷ ds) = (48 + d) ∷ digits ds
+abbrev pub digitBytes : List ℕ → List ℕ
+digitBytes [] = []
+digitBytes (d ∷ ds) = (48 + d) ∷ digitBytes ds
 
 -- ---- sessions, with what each prints
 
@@ -58,8 +58,8 @@ cases =
     -- case 11: a line of 64 bytes is parsed (its number is outside its width), one of 65 is refused; `V -0`, `V
     -- 2147483648`, and the ends of the width
     ∷ case
-    (readingBytes (replicate 62 49) ∷ readingBytes (replicate 63 49) ∷ readingBytes (45 ∷ 48 ∷ []) ∷ readingBytes (digits (2 ∷ 1 ∷ 4 ∷ 7 ∷ 4 ∷ 8 ∷ 3 ∷ 6 ∷ 4 ∷ 8 ∷ []))
-    ∷ readingBytes (digits (2 ∷ 1 ∷ 4 ∷ 7 ∷ 4 ∷ 8 ∷ 3 ∷ 6 ∷ 4 ∷ 7 ∷ [])) ∷ readingBytes (45 ∷ digits (2 ∷ 1 ∷ 4 ∷ 7 ∷ 4 ∷ 8 ∷ 3 ∷ 6 ∷ 4 ∷ 8 ∷ [])) ∷ readingBytes (45 ∷ digits (2 ∷ 1 ∷ 4 ∷ 7 ∷ 4 ∷ 8 ∷ 3 ∷ 6 ∷ 4 ∷ 9 ∷ [])) ∷ [])
+    (readingBytes (replicate 62 49) ∷ readingBytes (replicate 63 49) ∷ readingBytes (45 ∷ 48 ∷ []) ∷ readingBytes (digitBytes (2 ∷ 1 ∷ 4 ∷ 7 ∷ 4 ∷ 8 ∷ 3 ∷ 6 ∷ 4 ∷ 8 ∷ []))
+    ∷ readingBytes (digitBytes (2 ∷ 1 ∷ 4 ∷ 7 ∷ 4 ∷ 8 ∷ 3 ∷ 6 ∷ 4 ∷ 7 ∷ [])) ∷ readingBytes (45 ∷ digitBytes (2 ∷ 1 ∷ 4 ∷ 7 ∷ 4 ∷ 8 ∷ 3 ∷ 6 ∷ 4 ∷ 8 ∷ [])) ∷ readingBytes (45 ∷ digitBytes (2 ∷ 1 ∷ 4 ∷ 7 ∷ 4 ∷ 8 ∷ 3 ∷ 6 ∷ 4 ∷ 9 ∷ [])) ∷ [])
     (refusalLine 1 15 ∷ refusalLine 2 12 ∷ refusalLine 3 14 ∷ refusalLine 4 15 ∷ refusalLine 7 15 ∷ totalsLine 2 0 0 0 ∷ [])
     -- a last line without byte 10 counts if it has a byte
     ∷ case (registerText 1 1 1 1 ∷ (86 ∷ 9 ∷ 55 ∷ []) ∷ []) (answerLine 1 1 1 1 (pos 7) ∷ totalsLine 1 1 0 0 ∷ [])

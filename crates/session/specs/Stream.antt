@@ -32,12 +32,12 @@ abbrev pub lineEnded : Running → Streamed
 lineEnded r = reported (lineReported (r .position) (parsed (r .line)))
 
 -- these bytes join the current line
-abbrev pub extended : Running → List ℕ → Streamed
-extended r bytes = record { running = record { position = r .position; line = r .line ++ bytes }; text = [] }
+abbrev pub lineExtended : Running → List ℕ → Streamed
+lineExtended r bytes = record { running = record { position = r .position; line = r .line ++ bytes }; text = [] }
 
 -- one byte
 unfoldable pub fed : Running → ℕ → Streamed
-fed r b = cond (eqb b 10) (lineEnded r) (extended r (b ∷ []))
+fed r b = cond (eqb b 10) (lineEnded r) (lineExtended r (b ∷ []))
 
 -- the same with this text before it
 abbrev pub following : List ℕ → Streamed → Streamed

@@ -30,7 +30,7 @@ pub record Begun (input text : List ℕ) (h : Held) : Type 0 where
   pub feeds : Fed first input text h
 
 -- a session whole: opened, fed this input and finished; what was written
-pub record Ran (input output : List ℕ) : Type 0 where
+pub record SessionRan (input output : List ℕ) : Type 0 where
   pub text : List ℕ
   pub last : Held
   pub begun : Begun input text last
@@ -44,7 +44,7 @@ pub record Ran (input output : List ℕ) : Type 0 where
 
 -- the claim
 abbrev pub WholeSession : Type 0
-WholeSession = (input output : List ℕ) → Ran input output → output ≡ sessionOutput input
+WholeSession = (input output : List ℕ) → SessionRan input output → output ≡ sessionOutput input
 
 -- ---- for a program that hands its input on as it comes
 
@@ -72,7 +72,7 @@ pub record CarriesLimit (h h′ : Held) : Type 0 where
 -- output that its end left
 pub record RanAll (input : List ℕ) (lent left : Tables) (new : List ℕ) : Type 0 where
   pub output : List ℕ
-  pub ran : Ran input output
+  pub ran : SessionRan input output
   pub on : ran .begun .lent ≡ lent
   pub leaves : ran .left ≡ left
   pub ends : ran .new ≡ new
