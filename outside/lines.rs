@@ -2,10 +2,7 @@
 //! Works on bytes; nothing is assumed to be UTF-8.
 
 use crate::fault::Fault;
-use crate::reckoner::{Answer, Totals};
-
-/// A refusal number of document 01's table.
-pub type Refusal = u8;
+use crate::reckoner::{Answer, Refusal, Totals};
 
 /// The most bytes before a line's end (refusal 12).
 const LINE_LIMIT: usize = 64;

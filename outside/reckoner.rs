@@ -1,11 +1,12 @@
-//! The reference model: document 01's bench reckoner, written from that
-//! document alone. It keeps every reading and every closed partial, evaluates
-//! each due sliding window anew over the raw readings, and works out the
-//! standing partials anew at each closing. It is meant to be plainly right,
-//! not fast.
+//! The reference model: document 01's bench reckoner, written from that document alone. It keeps every reading and
+//! every closed partial, evaluates each due sliding window anew over the raw readings, and works out the standing
+//! partials anew at each closing. It is meant to be plainly right, not fast. The damage test of `bindings/damage` uses
+//! this file too, with `fault.rs`.
 
 use crate::fault::Fault;
-use crate::lines::Refusal;
+
+/// A refusal number of document 01's table.
+pub type Refusal = u8;
 
 const MOST_QUERIES: usize = 32;
 const MOST_READINGS: usize = u32::MAX as usize;
@@ -154,18 +155,23 @@ impl Reckoner {
         if self.readings.len() == MOST_READINGS {
             return Err(10);
         }
-        let n = self.readings.len() + 1;
-        let fault = self.fault;
-        let due: Vec<Query> = self.queries.iter().copied().filter(|query| query.is_due(n, fault)).collect();
+        let due = self.due_next();
         if places < 4 * due.len() {
             return Err(11);
         }
         self.readings.push(value);
-        if self.queries.iter().any(|query| query.cuts_at(n, fault)) {
+        let n = self.readings.len();
+        if self.queries.iter().any(|query| query.cuts_at(n, self.fault)) {
             self.close();
             self.open = Some(n);
         }
         Ok(due.iter().map(|query| self.answer(query)).collect())
+    }
+
+    /// The queries that are due at n + 1, in order of registration.
+    pub fn due_next(&self) -> Vec<Query> {
+        let n = self.readings.len() + 1;
+        self.queries.iter().copied().filter(|query| query.is_due(n, self.fault)).collect()
     }
 
     /// Totals: n, P, M, N, changing nothing.
