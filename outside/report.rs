@@ -38,7 +38,8 @@ pub fn coverage(tally: &Tally, by_profile: &[(&'static str, u64)], first: u64, s
     let full: Vec<String> = (1..=4).map(|kind| format!("{} {}", KINDS[kind], tally.full[kind])).collect();
     let shapes: Vec<String> =
         (0..4).map(|shape| format!("{} s {}", SHAPES[shape], tally.shapes[shape])).collect();
-    println!("seeds {first} to {}, {} lines, {} readings", first + sessions - 1, tally.lines, tally.readings);
+    let last = first.wrapping_add(sessions).wrapping_sub(1);
+    println!("seeds {first} to {last}, {} lines, {} readings", tally.lines, tally.readings);
     println!("sessions: {}", profiles.join(", "));
     println!("refusals: {}", refusals.join(", "));
     println!("answers: {}", answers.join(", "));
