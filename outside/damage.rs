@@ -32,8 +32,8 @@ const EDGE_NUMBERS: [&str; 22] = [
 
 /// Fields that are not numbers as document 01 writes them.
 const NOT_NUMBERS: [&str; 20] = [
-    "", "-", "-0", "00", "01", "-01", "007", "+1", "--1", "-1", "1-", "1.0", "1e3", "0x10", " 1", "1 ",
-    "1\r", "\u{661}", "\u{ff11}", "a",
+    "", "-", "-0", "00", "01", "-01", "007", "+1", "--1", "-1", "1-", "1.0", "1e3", "0x10", " 1", "1 ", "1\r",
+    "\u{661}", "\u{ff11}", "a",
 ];
 
 /// Whole lines that are damaged in themselves.

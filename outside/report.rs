@@ -33,11 +33,9 @@ pub fn coverage(tally: &Tally, by_profile: &[(&'static str, u64)], first: u64, s
     let profiles: Vec<String> = by_profile.iter().map(|(name, count)| format!("{name} {count}")).collect();
     let refusals: Vec<String> =
         REFUSALS.iter().map(|&number| format!("{number}: {}", tally.refusals[number])).collect();
-    let answers: Vec<String> =
-        (1..=4).map(|kind| format!("{} {}", KINDS[kind], tally.answers[kind])).collect();
+    let answers: Vec<String> = (1..=4).map(|kind| format!("{} {}", KINDS[kind], tally.answers[kind])).collect();
     let full: Vec<String> = (1..=4).map(|kind| format!("{} {}", KINDS[kind], tally.full[kind])).collect();
-    let shapes: Vec<String> =
-        (0..4).map(|shape| format!("{} s {}", SHAPES[shape], tally.shapes[shape])).collect();
+    let shapes: Vec<String> = (0..4).map(|shape| format!("{} s {}", SHAPES[shape], tally.shapes[shape])).collect();
     let last = first.wrapping_add(sessions).wrapping_sub(1);
     println!("seeds {first} to {last}, {} lines, {} readings", tally.lines, tally.readings);
     println!("sessions: {}", profiles.join(", "));

@@ -185,8 +185,7 @@ fn shorter(line: &[u8]) -> Vec<Vec<u8>> {
     let mut chunk = line.len().div_ceil(2);
     while chunk > 0 && line.len() / chunk <= 128 {
         let starts = (0..line.len()).step_by(chunk);
-        candidates
-            .extend(starts.map(|start| [&line[..start], &line[line.len().min(start + chunk)..]].concat()));
+        candidates.extend(starts.map(|start| [&line[..start], &line[line.len().min(start + chunk)..]].concat()));
         chunk /= 2;
     }
     candidates
