@@ -1,10 +1,8 @@
-//! Damaged session lines, made from good ones: refusals 12 to 15 and lines
-//! that are almost refused.
+//! Damaged session lines, made from good ones: refusals 12 to 15 and lines that are almost refused.
 
 use crate::random::Random;
 
-/// Numbers just inside and just outside each width, and numbers that come out
-/// small when cut to 32 or 64 bits.
+/// Numbers just inside and just outside each width, and numbers that come out small when cut to 32 or 64 bits.
 const EDGE_NUMBERS: [&str; 22] = [
     "0",
     "1",

@@ -1,5 +1,5 @@
-//! Document 01's "Figures to hold it to", its sample session and the rules
-//! about lines, each against the reference model.
+//! Document 01's "Figures to hold it to", its sample session and the rules about lines, each against the reference
+//! model.
 
 use crate::fault::Fault;
 use crate::reckoner::Reckoner;

@@ -22,8 +22,8 @@ pub struct Query {
     pub registered_at: usize,
 }
 
-/// A closed partial aggregate: readings start + 1 to the n at its closing. Its
-/// extremes are kept so that a closing does not read all live readings again.
+/// A closed partial aggregate: readings start + 1 to the n at its closing. Its extremes are kept so that a closing does
+/// not read all live readings again.
 #[derive(Clone, Copy, Debug)]
 pub struct Partial {
     pub start: usize,
@@ -221,8 +221,8 @@ impl Reckoner {
         self.queries.iter().map(|query| query.window_start(n)).min().unwrap_or(n)
     }
 
-    /// The live closed partials: those that do not start before the horizon.
-    /// Starts grow along the list, so they are its end.
+    /// The live closed partials: those that do not start before the horizon. Starts grow along the list, so they are
+    /// its end.
     pub fn live(&self) -> &[Partial] {
         let horizon = match self.fault {
             Fault::PastHorizonCompared => 0,
@@ -232,9 +232,8 @@ impl Reckoner {
         &self.closed[self.closed.partition_point(|partial| partial.start < horizon)..]
     }
 
-    /// Closes the open partial at n and counts the comparisons of partials.
-    /// The closed one joins the list, live or not; a later closing finds out
-    /// whether it still stands.
+    /// Closes the open partial at n and counts the comparisons of partials. The closed one joins the list, live or not;
+    /// a later closing finds out whether it still stands.
     fn close(&mut self) {
         let start = self.open.expect("only an open partial is closed");
         let held = &self.readings[start..];
@@ -252,9 +251,8 @@ impl Reckoner {
         self.closed.push(Partial { start, maximum, minimum });
     }
 
-    /// One for each standing partial at most the new one, and one more if any
-    /// standing partial is left. Standing are the live ones strictly greater
-    /// than every later one; going back from the latest, each new best stands.
+    /// One for each standing partial at most the new one, and one more if any standing partial is left. Standing are
+    /// the live ones strictly greater than every later one; going back from the latest, each new best stands.
     fn comparisons(&self, live: impl DoubleEndedIterator<Item = i64>, new: i64) -> u64 {
         let or_equal = self.fault == Fault::OlderEqualKept;
         let mut best = None;

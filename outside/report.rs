@@ -50,8 +50,7 @@ pub fn coverage(tally: &Tally, by_profile: &[(&'static str, u64)], first: u64, s
     println!("most partials in a session {}, most live at once {}", tally.most_closed, tally.most_live);
 }
 
-/// Whether every refusal, every kind (full windows too) and every relation of
-/// range to slide came up.
+/// Whether every refusal, every kind (full windows too) and every relation of range to slide came up.
 pub fn is_covered(tally: &Tally) -> bool {
     let mut missing: Vec<String> = Vec::new();
     let mut need = |count: u64, what: String| {

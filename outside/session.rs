@@ -1,5 +1,4 @@
-//! One whole session over the reference model: input bytes to output bytes,
-//! and a tally of what the session met.
+//! One whole session over the reference model: input bytes to output bytes, and a tally of what the session met.
 
 use crate::fault::Fault;
 use crate::lines::{self, Call};

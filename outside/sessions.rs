@@ -1,9 +1,8 @@
-//! Random sessions: the session program compared by running with the
-//! reference model, byte for byte. See README.md for the options.
+//! Random sessions: the session program compared by running with the reference model, byte for byte. See README.md for
+//! the options.
 //!
-//! Refusals 10 and 11 do not come up in a session: 10 needs 4,294,967,295
-//! readings, and the program's answer table is long enough for 32 answers.
-//! Refusals 1 and 2 are about lent tables, which a session does not see.
+//! Refusals 10 and 11 do not come up in a session: 10 needs 4,294,967,295 readings, and the program's answer table is
+//! long enough for 32 answers. Refusals 1 and 2 are about lent tables, which a session does not see.
 
 mod damage;
 mod fault;
@@ -169,8 +168,8 @@ fn found(subject: &Subject, seed: u64, made: &generate::Session) {
     report::difference(&Difference { seed, made, input, expected, outcome });
 }
 
-/// Every wrong variant has to be found, and its session has to shrink; and the
-/// way through a process has to tell a right program from a wrong one.
+/// Every wrong variant has to be found, and its session has to shrink; and the way through a process has to tell a
+/// right program from a wrong one.
 fn self_test() -> bool {
     let mut held = true;
     for (fault, most_lines) in fault::WRONG_VARIANTS {

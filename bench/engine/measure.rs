@@ -4,7 +4,8 @@ use crate::contender::{Answers, Contender, Driven, Query};
 use crate::field::Name;
 use crate::workload::{Configuration, Values};
 
-const CHECKED: u32 = 16_384; // readings whose answers are compared before the first round; every window is full long before
+// Readings whose answers are compared before the first round; every window is full long before.
+const CHECKED: u32 = 16_384;
 const WHOLE: u32 = 7 * 64; // every measurement is a whole number of these, so of every slide
 const TRIAL: u64 = 4_000_000; // nanoseconds that a trial has to take to tell the speed
 const ROUND: u64 = 40_000_000; // nanoseconds that a measurement is meant to take

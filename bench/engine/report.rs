@@ -6,7 +6,10 @@ use crate::workload::{Configuration, Values, QUERIES, RANGES, SLIDES};
 
 pub fn print(measured: &[Measured], rounds: usize, empty: f64) {
     println!("# Nanoseconds a reading\n");
-    println!("Rounds: {rounds}. Medians, processor time. A ratio is that of the medians; behind it the least and greatest of a round.");
+    println!(
+        "Rounds: {rounds}. Medians, processor time. A ratio is that of the medians; behind it the least and greatest of \
+         a round."
+    );
     println!(
         "The loop around the contenders, without an engine, takes {empty:.1} ns a reading; it is in every time.\n"
     );

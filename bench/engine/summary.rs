@@ -51,7 +51,10 @@ fn growth(measured: &[Measured], name: Name, queries: usize, slide: u32, values:
 
 fn flatness(measured: &[Measured]) {
     let (shortest, longest) = (RANGES[0], RANGES[RANGES.len() - 1]);
-    println!("Flat in the range: time at range {longest} over time at range {shortest}, library (in brackets plain_shared, per_query)\n");
+    println!(
+        "Flat in the range: time at range {longest} over time at range {shortest}, library (in brackets plain_shared, \
+         per_query)\n"
+    );
     head(&["queries", "slide", "random", "rising", "falling"]);
     let mut all = Vec::new();
     for (queries, slide) in QUERIES.into_iter().flat_map(|q| SLIDES.map(|s| (q, s))) {
