@@ -23,7 +23,9 @@ impl<T: Copy + Default> Ring<T> {
         Ring { entries: Box::new([(0, T::default()); CAPACITY]), head: 0, tail: 0 }
     }
 
-    fn at(&self, i: usize) -> (u32, T) { self.entries[i % CAPACITY] }
+    fn at(&self, i: usize) -> (u32, T) {
+        self.entries[i % CAPACITY]
+    }
 
     fn push(&mut self, start: u32, value: T) {
         self.entries[self.tail % CAPACITY] = (start, value);
@@ -32,7 +34,9 @@ impl<T: Copy + Default> Ring<T> {
 
     // Drops the oldest entries that start before the horizon.
     fn evict(&mut self, horizon: u32) {
-        while self.head < self.tail && self.at(self.head).0 < horizon { self.head += 1 }
+        while self.head < self.tail && self.at(self.head).0 < horizon {
+            self.head += 1
+        }
     }
 
     // The value of the first entry that starts at `from` or later, by binary search. A due query's window always has
@@ -41,7 +45,11 @@ impl<T: Copy + Default> Ring<T> {
         let (mut low, mut high) = (self.head, self.tail);
         while low < high {
             let middle = low + (high - low) / 2;
-            if self.at(middle).0 < from { low = middle + 1 } else { high = middle }
+            if self.at(middle).0 < from {
+                low = middle + 1
+            } else {
+                high = middle
+            }
         }
         self.at(low).1
     }
@@ -60,7 +68,9 @@ impl Deque {
         ring.evict(horizon);
         while ring.head < ring.tail {
             self.comparisons += 1;
-            if ring.at(ring.tail - 1).1 > value { break }
+            if ring.at(ring.tail - 1).1 > value {
+                break;
+            }
             ring.tail -= 1;
         }
         ring.push(start, value);
@@ -83,11 +93,11 @@ struct Engine {
     closed: u32,
     queries: Vec<Query>,
     next_edge: u64, // the least `due` or `begin` of all queries
-    start: u32, // the open partial: its start, sum, maximum and minimum
+    start: u32,     // the open partial: its start, sum, maximum and minimum
     sum: i64,
     max: i32,
     min: i32,
-    total: i64, // the sum of all closed partials
+    total: i64,      // the sum of all closed partials
     sums: Ring<i64>, // for each closed partial the sum of those before it
     maxima: Deque,
     minima: Deque,
@@ -97,8 +107,18 @@ impl Engine {
     fn new() -> Self {
         let deque = || Deque { ring: Ring::new(), comparisons: 0 };
         Engine {
-            n: 0, closed: 0, queries: Vec::with_capacity(32), next_edge: u64::MAX, start: 0, sum: 0, max: i32::MIN, min: i32::MAX,
-            total: 0, sums: Ring::new(), maxima: deque(), minima: deque(),
+            n: 0,
+            closed: 0,
+            queries: Vec::with_capacity(32),
+            next_edge: u64::MAX,
+            start: 0,
+            sum: 0,
+            max: i32::MIN,
+            min: i32::MAX,
+            total: 0,
+            sums: Ring::new(),
+            maxima: deque(),
+            minima: deque(),
         }
     }
 
@@ -121,13 +141,27 @@ impl Engine {
     }
 
     fn register(&mut self, [number, kind, range, slide]: [u32; 4]) -> Result<(), u64> {
-        if !(1..=65_535).contains(&number) { return Err(3) }
-        if !(1..=4).contains(&kind) { return Err(4) }
-        if !(1..=4096).contains(&range) { return Err(5) }
-        if !(1..=4096).contains(&slide) { return Err(6) }
-        if self.queries.iter().any(|q| q.number == number) { return Err(7) }
-        if self.queries.len() == 32 { return Err(8) }
-        if !self.queries.is_empty() && self.start < self.n { self.close() }
+        if !(1..=65_535).contains(&number) {
+            return Err(3);
+        }
+        if !(1..=4).contains(&kind) {
+            return Err(4);
+        }
+        if !(1..=4096).contains(&range) {
+            return Err(5);
+        }
+        if !(1..=4096).contains(&slide) {
+            return Err(6);
+        }
+        if self.queries.iter().any(|q| q.number == number) {
+            return Err(7);
+        }
+        if self.queries.len() == 32 {
+            return Err(8);
+        }
+        if !self.queries.is_empty() && self.start < self.n {
+            self.close()
+        }
         self.open();
         let origin = self.n;
         let (due, begin) = (origin as u64 + slide as u64, origin as u64 + (slide - range % slide) as u64);
@@ -144,12 +178,16 @@ impl Engine {
     }
 
     fn reading(&mut self, value: i32, out: &mut Out) -> Result<(), u64> {
-        if self.n == u32::MAX { return Err(10) }
+        if self.n == u32::MAX {
+            return Err(10);
+        }
         self.n += 1;
         self.sum += value as i64;
         self.max = self.max.max(value);
         self.min = self.min.min(value);
-        if self.n as u64 == self.next_edge { self.edge(out) }
+        if self.n as u64 == self.next_edge {
+            self.edge(out)
+        }
         Ok(())
     }
 
@@ -158,7 +196,9 @@ impl Engine {
         self.close();
         let (n, mut next) = (self.n, u64::MAX);
         for q in &mut self.queries {
-            if q.begin == n as u64 { q.begin += q.slide as u64 }
+            if q.begin == n as u64 {
+                q.begin += q.slide as u64
+            }
             if q.due == n as u64 {
                 q.due += q.slide as u64;
                 let from = q.origin.max(n.saturating_sub(q.range));
@@ -178,14 +218,22 @@ impl Engine {
 
 // A number as written: digits without a leading zero, or 0; at most `most`.
 fn number(field: &[u8], most: u64) -> Result<u64, u64> {
-    if field.is_empty() || field[0] == b'0' && field.len() > 1 { return Err(14) }
+    if field.is_empty() || field[0] == b'0' && field.len() > 1 {
+        return Err(14);
+    }
     let mut value = 0u64;
     for b in field {
         let digit = b.wrapping_sub(b'0');
-        if digit > 9 { return Err(14) }
+        if digit > 9 {
+            return Err(14);
+        }
         value = value.wrapping_mul(10).wrapping_add(digit as u64);
     }
-    if field.len() > 10 || value > most { Err(15) } else { Ok(value) }
+    if field.len() > 10 || value > most {
+        Err(15)
+    } else {
+        Ok(value)
+    }
 }
 
 fn signed(field: &[u8]) -> Result<i32, u64> {
@@ -199,7 +247,9 @@ fn signed(field: &[u8]) -> Result<i32, u64> {
 fn obey(line: &[u8], engine: &mut Engine, out: &mut Out) -> Result<(), u64> {
     let tabs = |bytes: &[u8]| bytes.iter().filter(|b| **b == b'\t').count();
     let unsigned = |field: &[u8]| number(field, u32::MAX as u64).map(|v| v as u32);
-    if line.len() > LONGEST { return Err(12) }
+    if line.len() > LONGEST {
+        return Err(12);
+    }
     match line {
         [b'V', b'\t', rest @ ..] => match signed(rest) {
             Ok(value) => engine.reading(value, out),
@@ -208,7 +258,9 @@ fn obey(line: &[u8], engine: &mut Engine, out: &mut Out) -> Result<(), u64> {
         [b'D', b'\t', rest @ ..] if tabs(rest) == 0 => engine.withdraw(unsigned(rest)?),
         [b'R', b'\t', rest @ ..] if tabs(rest) == 3 => {
             let mut fields = [0; 4];
-            for (field, bytes) in fields.iter_mut().zip(rest.split(|b| *b == b'\t')) { *field = unsigned(bytes)? }
+            for (field, bytes) in fields.iter_mut().zip(rest.split(|b| *b == b'\t')) {
+                *field = unsigned(bytes)?
+            }
             engine.register(fields)
         }
         _ => Err(13),
@@ -233,7 +285,9 @@ impl Out {
     }
 
     fn digits(&mut self, mut n: u64) {
-        if n < 10 { return self.byte(b'0' + n as u8) }
+        if n < 10 {
+            return self.byte(b'0' + n as u8);
+        }
         let mut i = self.at + n.ilog10() as usize + 1;
         self.at = i;
         while n >= 10 {
@@ -241,23 +295,32 @@ impl Out {
             self.bytes[i..i + 2].copy_from_slice(&PAIRS[(n % 100) as usize * 2..][..2]);
             n /= 100;
         }
-        if n > 0 { self.bytes[i - 1] = b'0' + n as u8 }
+        if n > 0 {
+            self.bytes[i - 1] = b'0' + n as u8
+        }
     }
 
     // A letter, the numbers, and if there is one a signed number at the end.
     fn line(&mut self, letter: u8, numbers: &[u64], last: Option<i64>) {
         self.byte(letter);
-        for n in numbers { self.byte(b'\t'); self.digits(*n) }
+        for n in numbers {
+            self.byte(b'\t');
+            self.digits(*n)
+        }
         if let Some(value) = last {
             self.byte(b'\t');
-            if value < 0 { self.byte(b'-') }
+            if value < 0 {
+                self.byte(b'-')
+            }
             self.digits(value.unsigned_abs());
         }
         self.byte(b'\n');
     }
 
     fn flush(&mut self) {
-        if io::stdout().write_all(&self.bytes[..self.at]).is_err() { exit(1) }
+        if io::stdout().write_all(&self.bytes[..self.at]).is_err() {
+            exit(1)
+        }
         self.at = 0;
     }
 }
@@ -270,16 +333,24 @@ fn session() -> io::Result<()> {
     let (mut kept, mut lines, mut input) = (0, 0u64, io::stdin().lock());
     let mut next = |line: &[u8], out: &mut Out| {
         lines += 1;
-        if out.at > CHUNK - ROOM { out.flush() }
-        if let Err(refusal) = obey(line, &mut engine, out) { out.line(b'E', &[lines, refusal], None) }
+        if out.at > CHUNK - ROOM {
+            out.flush()
+        }
+        if let Err(refusal) = obey(line, &mut engine, out) {
+            out.line(b'E', &[lines, refusal], None)
+        }
     };
     loop {
         let got = input.read(&mut buffer[kept..kept + CHUNK])?;
-        if got == 0 { break }
+        if got == 0 {
+            break;
+        }
         let (all, mut from) = (kept + got, 0);
         while from < all {
             let taken = (&buffer[from..all]).skip_until(b'\n')?; // a search by memchr
-            if buffer[from + taken - 1] != b'\n' { break }
+            if buffer[from + taken - 1] != b'\n' {
+                break;
+            }
             next(&buffer[from..from + taken - 1], &mut out);
             from += taken;
         }
@@ -287,8 +358,14 @@ fn session() -> io::Result<()> {
         kept = (all - from).min(LONGEST + 1);
         buffer.copy_within(from..from + kept, 0);
     }
-    if kept > 0 { next(&buffer[..kept], &mut out) }
-    out.line(b'T', &[engine.n as u64, engine.closed as u64, engine.maxima.comparisons, engine.minima.comparisons], None);
+    if kept > 0 {
+        next(&buffer[..kept], &mut out)
+    }
+    out.line(
+        b'T',
+        &[engine.n as u64, engine.closed as u64, engine.maxima.comparisons, engine.minima.comparisons],
+        None,
+    );
     out.flush();
     Ok(())
 }

@@ -4,8 +4,22 @@ use std::process::{exit, Command, Stdio};
 
 // Lines that are refused with 13, 14 and 15.
 const DAMAGED: [&str; 16] = [
-    "", "V", "X\t1", "R\t1\t2\t3", "D\t1\t2", "\tV\t1", "V\t01", "V\t-0", "V\t+5", "V\t", "D\t1x", "R\t1\t1\t\t1", "V\t2147483648",
-    "V\t-2147483649", "D\t4294967296", "R\t1\t1\t9999999999\t1",
+    "",
+    "V",
+    "X\t1",
+    "R\t1\t2\t3",
+    "D\t1\t2",
+    "\tV\t1",
+    "V\t01",
+    "V\t-0",
+    "V\t+5",
+    "V\t",
+    "D\t1x",
+    "R\t1\t1\t\t1",
+    "V\t2147483648",
+    "V\t-2147483649",
+    "D\t4294967296",
+    "R\t1\t1\t9999999999\t1",
 ];
 
 // The inputs, always the same bytes. Readings are a walk in small steps, as of wind or load.
@@ -26,10 +40,14 @@ pub fn generate(name: &str) -> io::Result<()> {
         _ => exit(2),
     };
     if name == "g" {
-        for _ in 0..1_000_000 { out.write_all(&[b'9'; 1000])? }
+        for _ in 0..1_000_000 {
+            out.write_all(&[b'9'; 1000])?
+        }
         writeln!(out)?;
     }
-    for i in 0..queries { writeln!(out, "R\t{}\t{}\t{range}\t{slide}", i + 1, i % 4 + 1)? }
+    for i in 0..queries {
+        writeln!(out, "R\t{}\t{}\t{range}\t{slide}", i + 1, i % 4 + 1)?
+    }
     let mut value = 0i64;
     for i in queries..lines {
         match (name, i % 300) {
@@ -37,7 +55,9 @@ pub fn generate(name: &str) -> io::Result<()> {
                 Some(line) => writeln!(out, "{line}")?,
                 None => writeln!(out, "V\t{:0>1$}", 1, 63 + random(100) as usize)?, // 65 bytes or more: 12
             },
-            ("f", 0) => writeln!(out, "R\t{}\t{}\t{}\t{}", random(40) + 1, random(4) + 1, random(4096) + 1, random(256) + 1)?,
+            ("f", 0) => {
+                writeln!(out, "R\t{}\t{}\t{}\t{}", random(40) + 1, random(4) + 1, random(4096) + 1, random(256) + 1)?
+            }
             ("f", 150) => writeln!(out, "D\t{}", random(40) + 1)?,
             _ => {
                 value = (value + random(2001) as i64 - 1000).clamp(-1_000_000, 1_000_000);
@@ -71,11 +91,15 @@ pub fn measure(program: &str) -> io::Result<()> {
         let text = std::fs::read_to_string(&path).unwrap_or_default();
         let field = text.lines().find_map(|l| l.strip_prefix("VmHWM:")).and_then(|l| l.split_whitespace().next());
         peak = peak.max(field.and_then(|f| f.parse().ok()).unwrap_or(0));
-        if let Some(status) = child.try_wait()? { break status }
+        if let Some(status) = child.try_wait()? {
+            break status;
+        }
         std::thread::sleep(std::time::Duration::from_millis(5));
     };
     let mut usage = Usage::default();
-    if !status.success() || unsafe { getrusage(-1, &mut usage) } != 0 { exit(1) }
+    if !status.success() || unsafe { getrusage(-1, &mut usage) } != 0 {
+        exit(1)
+    }
     println!("{} {peak}", (usage.user[0] + usage.system[0]) * 1_000_000 + usage.user[1] + usage.system[1]);
     Ok(())
 }

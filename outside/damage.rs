@@ -1,10 +1,8 @@
-//! Damaged session lines, made from good ones: refusals 12 to 15 and lines
-//! that are almost refused.
+//! Damaged session lines, made from good ones: refusals 12 to 15 and lines that are almost refused.
 
 use crate::random::Random;
 
-/// Numbers just inside and just outside each width, and numbers that come out
-/// small when cut to 32 or 64 bits.
+/// Numbers just inside and just outside each width, and numbers that come out small when cut to 32 or 64 bits.
 const EDGE_NUMBERS: [&str; 22] = [
     "0",
     "1",
@@ -32,8 +30,8 @@ const EDGE_NUMBERS: [&str; 22] = [
 
 /// Fields that are not numbers as document 01 writes them.
 const NOT_NUMBERS: [&str; 20] = [
-    "", "-", "-0", "00", "01", "-01", "007", "+1", "--1", "-1", "1-", "1.0", "1e3", "0x10", " 1", "1 ",
-    "1\r", "\u{661}", "\u{ff11}", "a",
+    "", "-", "-0", "00", "01", "-01", "007", "+1", "--1", "-1", "1-", "1.0", "1e3", "0x10", " 1", "1 ", "1\r",
+    "\u{661}", "\u{ff11}", "a",
 ];
 
 /// Whole lines that are damaged in themselves.

@@ -1,5 +1,5 @@
-//! Deliberate mistakes for the self-test. The reference model is run with
-//! `Fault::None`; every other value makes one small part of it wrong.
+//! Deliberate mistakes for the self-test. The reference model is run with `Fault::None`; every other value makes one
+//! small part of it wrong.
 
 #[derive(Clone, Copy, Debug, PartialEq, Eq)]
 pub enum Fault {

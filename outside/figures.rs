@@ -1,5 +1,5 @@
-//! Document 01's "Figures to hold it to", its sample session and the rules
-//! about lines, each against the reference model.
+//! Document 01's "Figures to hold it to", its sample session and the rules about lines, each against the reference
+//! model.
 
 use crate::fault::Fault;
 use crate::reckoner::Reckoner;
@@ -71,15 +71,8 @@ fn over_s(first: &[&'static str], readings: usize) -> Vec<&'static str> {
 /// Cases 1, 2, 4 and 5.
 fn maxima(checks: &mut Checks) {
     let run = over_s(&["R 1 3 3 1"], 7);
-    let answers = [
-        "A 1 1 3 1 5",
-        "A 2 1 3 2 5",
-        "A 3 1 3 3 5",
-        "A 4 1 3 3 8",
-        "A 5 1 3 3 8",
-        "A 6 1 3 3 8",
-        "A 7 1 3 3 6",
-    ];
+    let answers =
+        ["A 1 1 3 1 5", "A 2 1 3 2 5", "A 3 1 3 3 5", "A 4 1 3 3 8", "A 5 1 3 3 8", "A 6 1 3 3 8", "A 7 1 3 3 6"];
     checks.equal("case 1", answered(&run), answers.join(" / "));
     checks.equal("case 2, M after the third", totals(&over_s(&["R 1 3 3 1"], 3))[2], 3);
     checks.equal("case 2, totals", totals(&run), vec![7, 7, 8, 8]);

@@ -102,8 +102,7 @@ impl Maker {
         self.line(format!("V\t{value}").as_bytes());
     }
 
-    /// A registration that is accepted unless its number or the list stands
-    /// against it.
+    /// A registration that is accepted unless its number or the list stands against it.
     fn register(&mut self) {
         let mut number = self.number();
         if self.registered.contains(&number) && !self.random.one_in(8) {
@@ -154,8 +153,8 @@ impl Maker {
         }
     }
 
-    /// Well-formed lines whose call is refused with 3 to 9, several reasons at
-    /// a time so that the order of the checks shows.
+    /// Well-formed lines whose call is refused with 3 to 9, several reasons at a time so that the order of the checks
+    /// shows.
     fn refused_call(&mut self) {
         let line = match self.random.below(3) {
             0 => {

@@ -1,11 +1,8 @@
-//! Session lines: parser and printer, after document 01, "Session lines".
-//! Works on bytes; nothing is assumed to be UTF-8.
+//! Session lines: parser and printer, after document 01, "Session lines". Works on bytes; nothing is assumed to be
+//! UTF-8.
 
 use crate::fault::Fault;
-use crate::reckoner::{Answer, Totals};
-
-/// A refusal number of document 01's table.
-pub type Refusal = u8;
+use crate::reckoner::{Answer, Refusal, Totals};
 
 /// The most bytes before a line's end (refusal 12).
 const LINE_LIMIT: usize = 64;
@@ -60,8 +57,7 @@ fn is_number(field: &[u8]) -> bool {
     }
 }
 
-/// The number's size; anything beyond 64 bits stays at the largest, which is
-/// outside every width.
+/// The number's size; anything beyond 64 bits stays at the largest, which is outside every width.
 fn magnitude(field: &[u8]) -> Result<u64, Refusal> {
     if !is_number(field) {
         return Err(14);

@@ -1,5 +1,4 @@
-//! The kinds of random session: how long, which queries, which readings, how
-//! often each sort of line.
+//! The kinds of random session: how long, which queries, which readings, how often each sort of line.
 
 use crate::random::{Shape, ALL_SHAPES};
 
@@ -27,8 +26,8 @@ pub struct Profile {
     pub first: u64,
     pub shapes: &'static [Shape],
     pub longest_run: u64,
-    /// In ten thousand lines: registrations, withdrawals, withdrawals of all,
-    /// refused calls, damaged lines. The others are readings.
+    /// In ten thousand lines: registrations, withdrawals, withdrawals of all, refused calls, damaged lines. The others
+    /// are readings.
     pub weights: [u64; 5],
 }
 

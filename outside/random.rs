@@ -137,8 +137,8 @@ impl Stream {
         }
     }
 
-    /// Short teeth, or teeth a little longer than the longest range, so that a
-    /// full list of standing partials is emptied by one closing.
+    /// Short teeth, or teeth a little longer than the longest range, so that a full list of standing partials is
+    /// emptied by one closing.
     fn begin_teeth(&mut self, random: &mut Random) {
         let long = self.longest_run > 4_300 && !random.one_in(4);
         self.tooth = if long { random.between(4_090, 4_300) } else { random.between(2, 40) };

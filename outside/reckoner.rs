@@ -1,11 +1,12 @@
-//! The reference model: document 01's bench reckoner, written from that
-//! document alone. It keeps every reading and every closed partial, evaluates
-//! each due sliding window anew over the raw readings, and works out the
-//! standing partials anew at each closing. It is meant to be plainly right,
-//! not fast.
+//! The reference model: document 01's bench reckoner, written from that document alone. It keeps every reading and
+//! every closed partial, evaluates each due sliding window anew over the raw readings, and works out the standing
+//! partials anew at each closing. It is meant to be plainly right, not fast. The damage test of `bindings/damage` uses
+//! this file too, with `fault.rs`.
 
 use crate::fault::Fault;
-use crate::lines::Refusal;
+
+/// A refusal number of document 01's table.
+pub type Refusal = u8;
 
 const MOST_QUERIES: usize = 32;
 const MOST_READINGS: usize = u32::MAX as usize;
@@ -21,8 +22,8 @@ pub struct Query {
     pub registered_at: usize,
 }
 
-/// A closed partial aggregate: readings start + 1 to the n at its closing. Its
-/// extremes are kept so that a closing does not read all live readings again.
+/// A closed partial aggregate: readings start + 1 to the n at its closing. Its extremes are kept so that a closing does
+/// not read all live readings again.
 #[derive(Clone, Copy, Debug)]
 pub struct Partial {
     pub start: usize,
@@ -154,18 +155,23 @@ impl Reckoner {
         if self.readings.len() == MOST_READINGS {
             return Err(10);
         }
-        let n = self.readings.len() + 1;
-        let fault = self.fault;
-        let due: Vec<Query> = self.queries.iter().copied().filter(|query| query.is_due(n, fault)).collect();
+        let due = self.due_next();
         if places < 4 * due.len() {
             return Err(11);
         }
         self.readings.push(value);
-        if self.queries.iter().any(|query| query.cuts_at(n, fault)) {
+        let n = self.readings.len();
+        if self.queries.iter().any(|query| query.cuts_at(n, self.fault)) {
             self.close();
             self.open = Some(n);
         }
         Ok(due.iter().map(|query| self.answer(query)).collect())
+    }
+
+    /// The queries that are due at n + 1, in order of registration.
+    pub fn due_next(&self) -> Vec<Query> {
+        let n = self.readings.len() + 1;
+        self.queries.iter().copied().filter(|query| query.is_due(n, self.fault)).collect()
     }
 
     /// Totals: n, P, M, N, changing nothing.
@@ -215,8 +221,8 @@ impl Reckoner {
         self.queries.iter().map(|query| query.window_start(n)).min().unwrap_or(n)
     }
 
-    /// The live closed partials: those that do not start before the horizon.
-    /// Starts grow along the list, so they are its end.
+    /// The live closed partials: those that do not start before the horizon. Starts grow along the list, so they are
+    /// its end.
     pub fn live(&self) -> &[Partial] {
         let horizon = match self.fault {
             Fault::PastHorizonCompared => 0,
@@ -226,9 +232,8 @@ impl Reckoner {
         &self.closed[self.closed.partition_point(|partial| partial.start < horizon)..]
     }
 
-    /// Closes the open partial at n and counts the comparisons of partials.
-    /// The closed one joins the list, live or not; a later closing finds out
-    /// whether it still stands.
+    /// Closes the open partial at n and counts the comparisons of partials. The closed one joins the list, live or not;
+    /// a later closing finds out whether it still stands.
     fn close(&mut self) {
         let start = self.open.expect("only an open partial is closed");
         let held = &self.readings[start..];
@@ -246,9 +251,8 @@ impl Reckoner {
         self.closed.push(Partial { start, maximum, minimum });
     }
 
-    /// One for each standing partial at most the new one, and one more if any
-    /// standing partial is left. Standing are the live ones strictly greater
-    /// than every later one; going back from the latest, each new best stands.
+    /// One for each standing partial at most the new one, and one more if any standing partial is left. Standing are
+    /// the live ones strictly greater than every later one; going back from the latest, each new best stands.
     fn comparisons(&self, live: impl DoubleEndedIterator<Item = i64>, new: i64) -> u64 {
         let or_equal = self.fault == Fault::OlderEqualKept;
         let mut best = None;

@@ -33,12 +33,11 @@ pub fn coverage(tally: &Tally, by_profile: &[(&'static str, u64)], first: u64, s
     let profiles: Vec<String> = by_profile.iter().map(|(name, count)| format!("{name} {count}")).collect();
     let refusals: Vec<String> =
         REFUSALS.iter().map(|&number| format!("{number}: {}", tally.refusals[number])).collect();
-    let answers: Vec<String> =
-        (1..=4).map(|kind| format!("{} {}", KINDS[kind], tally.answers[kind])).collect();
+    let answers: Vec<String> = (1..=4).map(|kind| format!("{} {}", KINDS[kind], tally.answers[kind])).collect();
     let full: Vec<String> = (1..=4).map(|kind| format!("{} {}", KINDS[kind], tally.full[kind])).collect();
-    let shapes: Vec<String> =
-        (0..4).map(|shape| format!("{} s {}", SHAPES[shape], tally.shapes[shape])).collect();
-    println!("seeds {first} to {}, {} lines, {} readings", first + sessions - 1, tally.lines, tally.readings);
+    let shapes: Vec<String> = (0..4).map(|shape| format!("{} s {}", SHAPES[shape], tally.shapes[shape])).collect();
+    let last = first.wrapping_add(sessions).wrapping_sub(1);
+    println!("seeds {first} to {last}, {} lines, {} readings", tally.lines, tally.readings);
     println!("sessions: {}", profiles.join(", "));
     println!("refusals: {}", refusals.join(", "));
     println!("answers: {}", answers.join(", "));
@@ -51,8 +50,7 @@ pub fn coverage(tally: &Tally, by_profile: &[(&'static str, u64)], first: u64, s
     println!("most partials in a session {}, most live at once {}", tally.most_closed, tally.most_live);
 }
 
-/// Whether every refusal, every kind (full windows too) and every relation of
-/// range to slide came up.
+/// Whether every refusal, every kind (full windows too) and every relation of range to slide came up.
 pub fn is_covered(tally: &Tally) -> bool {
     let mut missing: Vec<String> = Vec::new();
     let mut need = |count: u64, what: String| {

@@ -1,9 +1,8 @@
-//! One whole session over the reference model: input bytes to output bytes,
-//! and a tally of what the session met.
+//! One whole session over the reference model: input bytes to output bytes, and a tally of what the session met.
 
 use crate::fault::Fault;
-use crate::lines::{self, Call, Refusal};
-use crate::reckoner::{Answer, Reckoner};
+use crate::lines::{self, Call};
+use crate::reckoner::{Answer, Reckoner, Refusal};
 use std::collections::BTreeSet;
 
 /// The session program's answer table is long enough for 32 answers.

@@ -1,9 +1,8 @@
-//! Random sessions: the session program compared by running with the
-//! reference model, byte for byte. See README.md for the options.
+//! Random sessions: the session program compared by running with the reference model, byte for byte. See README.md for
+//! the options.
 //!
-//! Refusals 10 and 11 do not come up in a session: 10 needs 4,294,967,295
-//! readings, and the program's answer table is long enough for 32 answers.
-//! Refusals 1 and 2 are about lent tables, which a session does not see.
+//! Refusals 10 and 11 do not come up in a session: 10 needs 4,294,967,295 readings, and the program's answer table is
+//! long enough for 32 answers. Refusals 1 and 2 are about lent tables, which a session does not see.
 
 mod damage;
 mod fault;
@@ -48,7 +47,10 @@ enum Task {
 struct Options {
     task: Task,
     program: PathBuf,
+    /// One seed alone, if given.
     seed: Option<u64>,
+    /// Else the first of the seeds.
+    first: u64,
     sessions: u64,
     /// At least this many lines, if given, instead of a count of sessions.
     lines: Option<u64>,
@@ -58,7 +60,7 @@ fn main() {
     let options = read_options().unwrap_or_else(|message| {
         eprintln!("{message}");
         eprintln!(
-            "options: --seed N, --sessions N, --lines N, --program PATH, --figures, --self-test, \
+            "options: --first N, --seed N, --sessions N, --lines N, --program PATH, --figures, --self-test, \
              --show (with --seed), --reckon FAULT"
         );
         exit(2);
@@ -76,7 +78,7 @@ fn main() {
 fn read_options() -> Result<Options, String> {
     let program = PathBuf::from(DEFAULT_PROGRAM);
     let sessions = DEFAULT_CYCLES * generate::SEED_CYCLE;
-    let mut options = Options { task: Task::Compare, program, seed: None, sessions, lines: None };
+    let mut options = Options { task: Task::Compare, program, seed: None, first: 1, sessions, lines: None };
     let mut arguments = std::env::args().skip(1);
     while let Some(name) = arguments.next() {
         let mut value = || arguments.next().ok_or(format!("{name} needs a value"));
@@ -89,6 +91,7 @@ fn read_options() -> Result<Options, String> {
                 options.task = Task::Reckon(fault::by_name(&name).ok_or(format!("no fault {name}"))?);
             }
             "--program" => options.program = PathBuf::from(value()?),
+            "--first" => options.first = number(&value()?)?,
             "--seed" => options.seed = Some(number(&value()?)?),
             "--sessions" => options.sessions = number(&value()?)?,
             "--lines" => options.lines = Some(number(&value()?)?),
@@ -131,10 +134,11 @@ fn compare(options: &Options) -> bool {
     let subject = Subject::Program { path: options.program.clone(), arguments: Vec::new() };
     let mut tally = Tally::default();
     let mut by_profile = Vec::new();
-    let first = options.seed.unwrap_or(1);
+    let first = options.seed.unwrap_or(options.first);
+    println!("outside: seeds from {first}");
     let mut sessions = 0;
     while !is_enough(options, sessions, tally.lines) {
-        let seed = first + sessions;
+        let seed = first.wrapping_add(sessions);
         let made = generate::session(seed);
         let expected = session::run(&made.input, Fault::None, &mut tally);
         let outcome = subject.run(&made.input);
@@ -164,8 +168,8 @@ fn found(subject: &Subject, seed: u64, made: &generate::Session) {
     report::difference(&Difference { seed, made, input, expected, outcome });
 }
 
-/// Every wrong variant has to be found, and its session has to shrink; and the
-/// way through a process has to tell a right program from a wrong one.
+/// Every wrong variant has to be found, and its session has to shrink; and the way through a process has to tell a
+/// right program from a wrong one.
 fn self_test() -> bool {
     let mut held = true;
     for (fault, most_lines) in fault::WRONG_VARIANTS {

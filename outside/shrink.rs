@@ -1,6 +1,5 @@
-//! Shrinking of a failing session (delta debugging): lines are dropped in
-//! chunks and singly, then fields and bytes are made simpler, for as long as
-//! the session still shows a difference.
+//! Shrinking of a failing session (delta debugging): lines are dropped in chunks and singly, then fields and bytes are
+//! made simpler, for as long as the session still shows a difference.
 
 use std::collections::BTreeSet;
 use std::time::{Duration, Instant};
@@ -92,8 +91,7 @@ impl Shrinker<'_> {
         gained
     }
 
-    /// Gives each query the least number with which the session still differs,
-    /// in all its lines at once.
+    /// Gives each query the least number with which the session still differs, in all its lines at once.
     fn rename_queries(&mut self) -> bool {
         let mut gained = false;
         for old in query_numbers(&self.lines) {
@@ -185,8 +183,7 @@ fn shorter(line: &[u8]) -> Vec<Vec<u8>> {
     let mut chunk = line.len().div_ceil(2);
     while chunk > 0 && line.len() / chunk <= 128 {
         let starts = (0..line.len()).step_by(chunk);
-        candidates
-            .extend(starts.map(|start| [&line[..start], &line[line.len().min(start + chunk)..]].concat()));
+        candidates.extend(starts.map(|start| [&line[..start], &line[line.len().min(start + chunk)..]].concat()));
         chunk /= 2;
     }
     candidates

@@ -1,5 +1,4 @@
-//! What is compared with the reference model: the session program, or a wrong
-//! variant of the model itself.
+//! What is compared with the reference model: the session program, or a wrong variant of the model itself.
 
 use crate::fault::Fault;
 use crate::session::{self, Tally};

@@ -23,7 +23,12 @@ pub struct Query {
 
 pub fn put_answer(answers: &mut Answers, at: usize, query: &Query, count: u32, value: i64) {
     let place = ANSWER_PLACES * at;
-    answers[place..place + ANSWER_PLACES].copy_from_slice(&[query.number as i64, query.kind as i64, count as i64, value]);
+    answers[place..place + ANSWER_PLACES].copy_from_slice(&[
+        query.number as i64,
+        query.kind as i64,
+        count as i64,
+        value,
+    ]);
 }
 
 pub trait Contender {
@@ -34,7 +39,9 @@ pub trait Contender {
     fn reading(&mut self, value: i32, answers: &mut Answers) -> usize;
 
     // Readings, closed partials, comparisons for maxima and for minima, where the contender has partials.
-    fn totals(&mut self) -> Option<[u64; 4]> { None }
+    fn totals(&mut self) -> Option<[u64; 4]> {
+        None
+    }
 }
 
 // A contender that can be driven without knowing which one it is.
@@ -50,9 +57,13 @@ pub trait Driven {
 }
 
 impl<C: Contender> Driven for C {
-    fn register(&mut self, query: Query) { Contender::register(self, query) }
+    fn register(&mut self, query: Query) {
+        Contender::register(self, query)
+    }
 
-    fn totals(&mut self) -> Option<[u64; 4]> { Contender::totals(self) }
+    fn totals(&mut self) -> Option<[u64; 4]> {
+        Contender::totals(self)
+    }
 
     fn feed(&mut self, values: Values, from: u32, to: u32) -> u64 {
         let mut answers = [0; ANSWER_PLACES * QUERY_LIMIT];
@@ -69,7 +80,9 @@ impl<C: Contender> Driven for C {
         for n in from..to {
             let answered = self.reading(values.at(n), &mut answers);
             checksum = mix(checksum, answered as u64);
-            for number in &answers[..ANSWER_PLACES * answered] { checksum = mix(checksum, *number as u64) }
+            for number in &answers[..ANSWER_PLACES * answered] {
+                checksum = mix(checksum, *number as u64)
+            }
         }
         checksum
     }

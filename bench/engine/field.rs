@@ -12,7 +12,8 @@ pub enum Name {
 }
 
 impl Name {
-    pub const ALL: [Name; 5] = [Name::Library, Name::Reevaluate, Name::PerQuery, Name::PlainShared, Name::PlainRemainders];
+    pub const ALL: [Name; 5] =
+        [Name::Library, Name::Reevaluate, Name::PerQuery, Name::PlainShared, Name::PlainRemainders];
 
     pub fn text(self) -> &'static str {
         match self {
@@ -37,7 +38,11 @@ impl Name {
 }
 
 #[cfg(not(without_library))]
-fn library() -> Option<Box<dyn Driven>> { Some(Box::new(crate::library::Library::new())) }
+fn library() -> Option<Box<dyn Driven>> {
+    Some(Box::new(crate::library::Library::new()))
+}
 
 #[cfg(without_library)]
-fn library() -> Option<Box<dyn Driven>> { None }
+fn library() -> Option<Box<dyn Driven>> {
+    None
+}

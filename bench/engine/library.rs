@@ -40,8 +40,14 @@ macro_rules! call {
 impl Library {
     pub fn new() -> Self {
         let mut library = Library {
-            state: [0; STATE_NUMBERS], queries: [0; LIST_NUMBERS], starts: [0; TABLE_PLACES], sums: [0; TABLE_PLACES],
-            max_starts: [0; TABLE_PLACES], max_values: [0; TABLE_PLACES], min_starts: [0; TABLE_PLACES], min_values: [0; TABLE_PLACES],
+            state: [0; STATE_NUMBERS],
+            queries: [0; LIST_NUMBERS],
+            starts: [0; TABLE_PLACES],
+            sums: [0; TABLE_PLACES],
+            max_starts: [0; TABLE_PLACES],
+            max_values: [0; TABLE_PLACES],
+            min_starts: [0; TABLE_PLACES],
+            min_values: [0; TABLE_PLACES],
         };
         call!(pchelodar_start(&mut library));
         library
@@ -49,7 +55,9 @@ impl Library {
 }
 
 impl Contender for Library {
-    fn register(&mut self, q: Query) { call!(pchelodar_register(self, q.number, q.kind, q.range, q.slide)) }
+    fn register(&mut self, q: Query) {
+        call!(pchelodar_register(self, q.number, q.kind, q.range, q.slide))
+    }
 
     fn reading(&mut self, value: i32, answers: &mut Answers) -> usize {
         let mut answered = 0;

@@ -4,7 +4,8 @@ use crate::contender::{Answers, Contender, Driven, Query};
 use crate::field::Name;
 use crate::workload::{Configuration, Values};
 
-const CHECKED: u32 = 16_384; // readings whose answers are compared before the first round; every window is full long before
+// Readings whose answers are compared before the first round; every window is full long before.
+const CHECKED: u32 = 16_384;
 const WHOLE: u32 = 7 * 64; // every measurement is a whole number of these, so of every slide
 const TRIAL: u64 = 4_000_000; // nanoseconds that a trial has to take to tell the speed
 const ROUND: u64 = 40_000_000; // nanoseconds that a measurement is meant to take
@@ -15,10 +16,14 @@ pub struct Measured {
 }
 
 impl Measured {
-    fn of(&self, name: Name) -> &[f64] { &self.times[name as usize] }
+    fn of(&self, name: Name) -> &[f64] {
+        &self.times[name as usize]
+    }
 
     // Median, least and greatest nanoseconds a reading.
-    pub fn time(&self, name: Name) -> Option<[f64; 3]> { spread(self.of(name).to_vec()) }
+    pub fn time(&self, name: Name) -> Option<[f64; 3]> {
+        spread(self.of(name).to_vec())
+    }
 
     // The ratio of the medians, and the least and greatest ratio of a round.
     pub fn ratio(&self, name: Name, to: Name) -> Option<[f64; 3]> {
@@ -52,7 +57,11 @@ impl Runner {
         let time = clock::now() - before;
         self.taken = to;
         let due = configuration.due(from, to);
-        if answered == due { Ok(time) } else { Err(format!("{configuration}: {} answers {answered} times, not {due}", self.name.text())) }
+        if answered == due {
+            Ok(time)
+        } else {
+            Err(format!("{configuration}: {} answers {answered} times, not {due}", self.name.text()))
+        }
     }
 
     // Finds out how many readings make a round.
@@ -82,8 +91,12 @@ fn field(configuration: Configuration) -> Result<Vec<Runner>, String> {
         totals.extend(contender.totals().map(|t| (name, t)));
         runners.push(Runner { name, contender, taken: CHECKED, a_round: 0 });
     }
-    if checksums.iter().any(|c| c.1 != checksums[0].1) { return Err(format!("{configuration}: the answers differ: {checksums:x?}")) }
-    if totals.iter().any(|t| t.1 != totals[0].1) { return Err(format!("{configuration}: the totals differ: {totals:?}")) }
+    if checksums.iter().any(|c| c.1 != checksums[0].1) {
+        return Err(format!("{configuration}: the answers differ: {checksums:x?}"));
+    }
+    if totals.iter().any(|t| t.1 != totals[0].1) {
+        return Err(format!("{configuration}: the totals differ: {totals:?}"));
+    }
     Ok(runners)
 }
 
@@ -96,7 +109,9 @@ struct Race {
 impl Race {
     fn new(configuration: Configuration) -> Result<Self, String> {
         let mut runners = field(configuration)?;
-        for runner in &mut runners { runner.calibrate(configuration)? }
+        for runner in &mut runners {
+            runner.calibrate(configuration)?
+        }
         Ok(Race { runners, measured: Measured { configuration, times: vec![Vec::new(); Name::ALL.len()] } })
     }
 
@@ -117,7 +132,9 @@ pub fn measure(configurations: &[Configuration], rounds: usize) -> Result<Vec<Me
     let mut races = races?;
     eprintln!("equal answers in {} configurations", races.len());
     for round in 1..=rounds {
-        for race in &mut races { race.round()? }
+        for race in &mut races {
+            race.round()?
+        }
         eprintln!("round {round} of {rounds}");
     }
     Ok(races.into_iter().map(|race| race.measured).collect())
@@ -130,7 +147,9 @@ impl Contender for Nothing {
     fn register(&mut self, _: Query) {}
 
     #[inline(never)]
-    fn reading(&mut self, value: i32, _: &mut Answers) -> usize { std::hint::black_box(value) as usize & 1 }
+    fn reading(&mut self, value: i32, _: &mut Answers) -> usize {
+        std::hint::black_box(value) as usize & 1
+    }
 }
 
 // Nanoseconds a reading of the loop around the contenders: random values are made and a call is done. They are in every

@@ -47,11 +47,16 @@ fn name(text: &str) -> Result<Name, String> {
 
 fn configuration(text: &str) -> Result<Configuration, String> {
     let fields: Vec<&str> = text.split(',').collect();
-    let [queries, range, slide, values] = fields[..] else { return Err(format!("{text} is not QUERIES,RANGE,SLIDE,VALUES")) };
+    let [queries, range, slide, values] = fields[..] else {
+        return Err(format!("{text} is not QUERIES,RANGE,SLIDE,VALUES"));
+    };
     Ok(Configuration {
         queries: number(queries, 32)? as usize,
         range: number(range, 4096)? as u32,
         slide: number(slide, 4096)? as u32,
-        values: Values::ALL.into_iter().find(|v| v.name() == values).ok_or(format!("{values} is not random, rising or falling"))?,
+        values: Values::ALL
+            .into_iter()
+            .find(|v| v.name() == values)
+            .ok_or(format!("{values} is not random, rising or falling"))?,
     })
 }

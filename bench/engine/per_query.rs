@@ -33,12 +33,18 @@ struct Registered {
 // The reading `index` enters the deque: first what has left the window is evicted at the front, and what it surpasses
 // at the back.
 fn enter(deque: &mut Deque, index: u32, value: i32, range: u32) {
-    if deque.front().is_some_and(|(first, _)| first + range <= index) { deque.pop_front(); }
-    while deque.back().is_some_and(|(_, last)| *last <= value) { deque.pop_back(); }
+    if deque.front().is_some_and(|(first, _)| first + range <= index) {
+        deque.pop_front();
+    }
+    while deque.back().is_some_and(|(_, last)| *last <= value) {
+        deque.pop_back();
+    }
     deque.push_back((index, value));
 }
 
-fn front(deque: &Deque) -> i32 { deque.front().map_or(i32::MIN, |(_, value)| *value) }
+fn front(deque: &Deque) -> i32 {
+    deque.front().map_or(i32::MIN, |(_, value)| *value)
+}
 
 impl Registered {
     fn take(&mut self, value: i32) {
@@ -70,7 +76,9 @@ pub struct PerQuery {
 }
 
 impl PerQuery {
-    pub fn new() -> Self { PerQuery { queries: Vec::new() } }
+    pub fn new() -> Self {
+        PerQuery { queries: Vec::new() }
+    }
 }
 
 impl Contender for PerQuery {
@@ -85,7 +93,9 @@ impl Contender for PerQuery {
         for q in &mut self.queries {
             q.take(value);
             q.until_due -= 1;
-            if q.until_due > 0 { continue }
+            if q.until_due > 0 {
+                continue;
+            }
             q.until_due = q.query.slide;
             let count = q.taken.min(q.query.range);
             put_answer(answers, answered, &q.query, count, q.value(count));

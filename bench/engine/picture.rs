@@ -30,7 +30,10 @@ fn style(name: Name) -> Style {
 // A series for each contender: `time` gives the nanoseconds at a place of the horizontal axis. The library is drawn
 // last, above the others.
 fn series(ticks: &[f64], time: impl Fn(Name, f64) -> Option<f64>) -> Vec<Series> {
-    let series = |name| Series { style: style(name), points: ticks.iter().filter_map(|x| Some((*x, time(name, *x)?))).collect() };
+    let series = |name| Series {
+        style: style(name),
+        points: ticks.iter().filter_map(|x| Some((*x, time(name, *x)?))).collect(),
+    };
     Name::ALL.into_iter().rev().map(series).filter(|s| !s.points.is_empty()).collect()
 }
 
@@ -38,7 +41,9 @@ fn over_range(measured: &[Measured]) -> Figure {
     let x_ticks: Vec<f64> = RANGES.map(f64::from).to_vec();
     let panel = |queries: usize| Panel {
         title: format!("{queries} {}", if queries == 1 { "query" } else { "queries" }),
-        series: series(&x_ticks, |name, range| Some(find(measured, queries, range as u32, 1, Values::Random)?.time(name)?[0])),
+        series: series(&x_ticks, |name, range| {
+            Some(find(measured, queries, range as u32, 1, Values::Random)?.time(name)?[0])
+        }),
     };
     let panels = QUERIES.map(panel).into_iter().collect();
     let title = "Time by range (slide 1, random values)".to_string();
@@ -49,7 +54,9 @@ fn over_queries(measured: &[Measured]) -> Figure {
     let x_ticks: Vec<f64> = PICTURE_QUERIES.map(|q| q as f64).to_vec();
     let panel = |slide: u32| Panel {
         title: format!("slide {slide}"),
-        series: series(&x_ticks, |name, q| Some(find(measured, q as usize, PICTURE_RANGE, slide, Values::Random)?.time(name)?[0])),
+        series: series(&x_ticks, |name, q| {
+            Some(find(measured, q as usize, PICTURE_RANGE, slide, Values::Random)?.time(name)?[0])
+        }),
     };
     let panels = PICTURE_SLIDES.map(panel).into_iter().collect();
     let title = format!("Time by number of queries (range {PICTURE_RANGE}, random values)");

@@ -53,19 +53,27 @@ fn grouped(number: f64) -> String {
     let digits = format!("{number:.0}");
     let mut text = String::new();
     for (i, digit) in digits.chars().enumerate() {
-        if i > 0 && (digits.len() - i) % 3 == 0 { text.push(',') }
+        if i > 0 && (digits.len() - i) % 3 == 0 {
+            text.push(',')
+        }
         text.push(digit);
     }
     text
 }
 
 fn text(out: &mut String, x: f64, y: f64, size: u32, anchor: &str, extra: &str, content: &str) {
-    let _ = writeln!(out, r##"<text x="{x:.1}" y="{y:.1}" font-size="{size}" text-anchor="{anchor}"{extra}>{content}</text>"##);
+    let _ = writeln!(
+        out,
+        r##"<text x="{x:.1}" y="{y:.1}" font-size="{size}" text-anchor="{anchor}"{extra}>{content}</text>"##
+    );
 }
 
 fn line(out: &mut String, from: (f64, f64), to: (f64, f64), colour: &str, width: f64) {
     let ((x1, y1), (x2, y2)) = (from, to);
-    let _ = writeln!(out, r##"<line x1="{x1:.1}" y1="{y1:.1}" x2="{x2:.1}" y2="{y2:.1}" stroke="{colour}" stroke-width="{width}"/>"##);
+    let _ = writeln!(
+        out,
+        r##"<line x1="{x1:.1}" y1="{y1:.1}" x2="{x2:.1}" y2="{y2:.1}" stroke="{colour}" stroke-width="{width}"/>"##
+    );
 }
 
 fn marker(out: &mut String, style: &Style, x: f64, y: f64) {
@@ -76,7 +84,9 @@ fn marker(out: &mut String, style: &Style, x: f64, y: f64) {
     };
     let shape = match style.marker {
         Marker::Circle => format!(r##"<circle cx="{x:.1}" cy="{y:.1}" r="4.5" fill="{colour}"/>"##),
-        Marker::Ring => format!(r##"<circle cx="{x:.1}" cy="{y:.1}" r="3.8" fill="#ffffff" stroke="{colour}" stroke-width="1.8"/>"##),
+        Marker::Ring => format!(
+            r##"<circle cx="{x:.1}" cy="{y:.1}" r="3.8" fill="#ffffff" stroke="{colour}" stroke-width="1.8"/>"##
+        ),
         Marker::Square => polygon(&[(-3.8, -3.8), (3.8, -3.8), (3.8, 3.8), (-3.8, 3.8)]),
         Marker::Triangle => polygon(&[(0.0, -5.0), (4.6, 3.6), (-4.6, 3.6)]),
         Marker::Diamond => polygon(&[(0.0, -5.4), (5.4, 0.0), (0.0, 5.4), (-5.4, 0.0)]),
@@ -130,7 +140,9 @@ impl Figure {
         let middle = TOP + HEIGHT / 2.0;
         let turned = format!(r##" transform="rotate(-90 18 {middle:.1})""##);
         text(&mut out, 18.0, middle, 12, "middle", &turned, self.y_label);
-        for (i, panel) in self.panels.iter().enumerate() { self.panel(&mut out, i, panel) }
+        for (i, panel) in self.panels.iter().enumerate() {
+            self.panel(&mut out, i, panel)
+        }
         out.push_str("</svg>\n");
         out
     }
@@ -162,7 +174,9 @@ impl Figure {
         for series in &panel.series {
             let places: Vec<(f64, f64)> = series.points.iter().map(|(x, y)| (self.x(left, *x), self.y(*y))).collect();
             polyline(out, &series.style, &places);
-            for (x, y) in places { marker(out, &series.style, x, y) }
+            for (x, y) in places {
+                marker(out, &series.style, x, y)
+            }
         }
     }
 
@@ -178,7 +192,9 @@ impl Figure {
                 text(out, left - 8.0, y + 4.0, 12, "end", "", &number);
             }
             if decade < high {
-                for y in [2.0, 5.0].map(|times| self.y(times * value)) { line(out, (left, y), (right, y), "#ececec", 1.0) }
+                for y in [2.0, 5.0].map(|times| self.y(times * value)) {
+                    line(out, (left, y), (right, y), "#ececec", 1.0)
+                }
             }
         }
     }

@@ -17,7 +17,9 @@ pub fn run(configuration: Configuration, name: Name, seconds: u64) -> Result<(),
         taken += BATCH;
         total += BATCH as u64;
         let time = clock::now() - begin;
-        if time >= seconds * 1_000_000_000 { break time }
+        if time >= seconds * 1_000_000_000 {
+            break time;
+        }
         if taken > MOST {
             contender = fresh()?;
             configuration.set_up(&mut *contender, WARM_UP);

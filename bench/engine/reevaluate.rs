@@ -17,20 +17,32 @@ pub struct Reevaluate {
 }
 
 impl Reevaluate {
-    pub fn new() -> Self { Reevaluate { n: 0, readings: [0; CAPACITY], queries: Vec::new() } }
+    pub fn new() -> Self {
+        Reevaluate { n: 0, readings: [0; CAPACITY], queries: Vec::new() }
+    }
 }
 
 // The last `count` of the n readings, as the two pieces that they are in the ring, the older first.
 fn window(readings: &[i32; CAPACITY], n: usize, count: usize) -> (&[i32], &[i32]) {
     let end = n % CAPACITY;
-    if count <= end { (&[], &readings[end - count..end]) } else { (&readings[CAPACITY + end - count..], &readings[..end]) }
+    if count <= end {
+        (&[], &readings[end - count..end])
+    } else {
+        (&readings[CAPACITY + end - count..], &readings[..end])
+    }
 }
 
-fn sum(readings: &[i32]) -> i64 { readings.iter().map(|v| *v as i64).sum() }
+fn sum(readings: &[i32]) -> i64 {
+    readings.iter().map(|v| *v as i64).sum()
+}
 
-fn maximum(readings: &[i32]) -> i32 { readings.iter().fold(i32::MIN, |a, b| a.max(*b)) }
+fn maximum(readings: &[i32]) -> i32 {
+    readings.iter().fold(i32::MIN, |a, b| a.max(*b))
+}
 
-fn minimum(readings: &[i32]) -> i32 { readings.iter().fold(i32::MAX, |a, b| a.min(*b)) }
+fn minimum(readings: &[i32]) -> i32 {
+    readings.iter().fold(i32::MAX, |a, b| a.min(*b))
+}
 
 fn evaluate(kind: u32, older: &[i32], newer: &[i32]) -> i64 {
     match kind {
@@ -42,7 +54,9 @@ fn evaluate(kind: u32, older: &[i32], newer: &[i32]) -> i64 {
 }
 
 impl Contender for Reevaluate {
-    fn register(&mut self, query: Query) { self.queries.push(Registered { query, taken: 0, until_due: query.slide }) }
+    fn register(&mut self, query: Query) {
+        self.queries.push(Registered { query, taken: 0, until_due: query.slide })
+    }
 
     #[inline(never)]
     fn reading(&mut self, value: i32, answers: &mut Answers) -> usize {
@@ -52,7 +66,9 @@ impl Contender for Reevaluate {
         for q in &mut self.queries {
             q.taken += 1;
             q.until_due -= 1;
-            if q.until_due > 0 { continue }
+            if q.until_due > 0 {
+                continue;
+            }
             q.until_due = q.query.slide;
             let count = q.taken.min(q.query.range);
             let (older, newer) = window(&self.readings, self.n, count as usize);

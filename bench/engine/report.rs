@@ -1,19 +1,26 @@
 // Tables in Markdown on standard output.
 use crate::field::Name;
+use crate::find;
 use crate::measure::Measured;
 use crate::workload::{Configuration, Values, QUERIES, RANGES, SLIDES};
-use crate::find;
 
 pub fn print(measured: &[Measured], rounds: usize, empty: f64) {
     println!("# Nanoseconds a reading\n");
-    println!("Rounds: {rounds}. Medians, processor time. A ratio is that of the medians; behind it the least and greatest of a round.");
-    println!("The loop around the contenders, without an engine, takes {empty:.1} ns a reading; it is in every time.\n");
+    println!(
+        "Rounds: {rounds}. Medians, processor time. A ratio is that of the medians; behind it the least and greatest of \
+         a round."
+    );
+    println!(
+        "The loop around the contenders, without an engine, takes {empty:.1} ns a reading; it is in every time.\n"
+    );
     random_table(measured);
     monotonic_table(measured);
 }
 
 // One table row.
-pub fn row(cells: &[String]) { println!("| {} |", cells.join(" | ")) }
+pub fn row(cells: &[String]) {
+    println!("| {} |", cells.join(" | "))
+}
 
 // The head of a table: the titles, and a line of dashes; numbers stand to the right.
 pub fn head(titles: &[&str]) {
@@ -31,15 +38,27 @@ pub fn nanoseconds(time: Option<[f64; 3]>) -> String {
 }
 
 // A ratio in two decimals; from 10 on, in one.
-pub fn ratio(value: f64) -> String { if value < 9.995 { format!("{value:.2}") } else { format!("{value:.1}") } }
-
-fn short(of: Option<[f64; 3]>) -> String { of.map_or("-".to_string(), |[median, ..]| ratio(median)) }
-
-fn with_spread(of: Option<[f64; 3]>) -> String {
-    of.map_or("-".to_string(), |[median, least, greatest]| format!("{} ({} to {})", ratio(median), ratio(least), ratio(greatest)))
+pub fn ratio(value: f64) -> String {
+    if value < 9.995 {
+        format!("{value:.2}")
+    } else {
+        format!("{value:.1}")
+    }
 }
 
-fn configuration_cells(c: &Configuration) -> Vec<String> { vec![c.queries.to_string(), c.range.to_string(), c.slide.to_string()] }
+fn short(of: Option<[f64; 3]>) -> String {
+    of.map_or("-".to_string(), |[median, ..]| ratio(median))
+}
+
+fn with_spread(of: Option<[f64; 3]>) -> String {
+    of.map_or("-".to_string(), |[median, least, greatest]| {
+        format!("{} ({} to {})", ratio(median), ratio(least), ratio(greatest))
+    })
+}
+
+fn configuration_cells(c: &Configuration) -> Vec<String> {
+    vec![c.queries.to_string(), c.range.to_string(), c.slide.to_string()]
+}
 
 // Random values: every contender and every ratio.
 fn random_table(measured: &[Measured]) {

@@ -13,13 +13,17 @@ struct Deque {
 }
 
 impl Deque {
-    fn new() -> Self { Deque { ring: Ring::new(), comparisons: 0 } }
+    fn new() -> Self {
+        Deque { ring: Ring::new(), comparisons: 0 }
+    }
 
     fn close(&mut self, horizon: u32, start: u32, value: i32) {
         self.ring.evict(horizon);
         while let Some((_, last)) = self.ring.back() {
             self.comparisons += 1;
-            if last > value { break }
+            if last > value {
+                break;
+            }
             self.ring.pop_back();
         }
         self.ring.push(start, value);
@@ -35,7 +39,9 @@ struct Registered {
 }
 
 impl Registered {
-    fn window_start(&self, n: u32) -> u32 { self.origin.max(n.saturating_sub(self.query.range)) }
+    fn window_start(&self, n: u32) -> u32 {
+        self.origin.max(n.saturating_sub(self.query.range))
+    }
 
     // Whether it is due at n, and whether a window of it begins there.
     fn edges(&self, n: u32) -> (bool, bool) {
@@ -54,7 +60,9 @@ struct Partial {
 }
 
 impl Partial {
-    fn new(start: u32) -> Self { Partial { start, sum: 0, max: i32::MIN, min: i32::MAX } }
+    fn new(start: u32) -> Self {
+        Partial { start, sum: 0, max: i32::MIN, min: i32::MAX }
+    }
 
     fn take(&mut self, value: i32) {
         self.sum += value as i64;
@@ -78,8 +86,15 @@ pub struct Shared<const REMAINDERS: bool> {
 impl<const REMAINDERS: bool> Shared<REMAINDERS> {
     pub fn new() -> Self {
         Shared {
-            n: 0, closed: 0, queries: Vec::new(), next_edge: u32::MAX, open: Partial::new(0), total: 0, sums: Ring::new(),
-            maxima: Deque::new(), minima: Deque::new(),
+            n: 0,
+            closed: 0,
+            queries: Vec::new(),
+            next_edge: u32::MAX,
+            open: Partial::new(0),
+            total: 0,
+            sums: Ring::new(),
+            maxima: Deque::new(),
+            minima: Deque::new(),
         }
     }
 
@@ -114,8 +129,12 @@ impl<const REMAINDERS: bool> Shared<REMAINDERS> {
         for i in 0..self.queries.len() {
             let q = &mut self.queries[i];
             let due = q.due == n;
-            if due { q.due += q.query.slide }
-            if q.begin == n { q.begin += q.query.slide }
+            if due {
+                q.due += q.query.slide
+            }
+            if q.begin == n {
+                q.begin += q.query.slide
+            }
             next = next.min(q.due).min(q.begin);
             if due {
                 self.answer(&self.queries[i], answers, answered);
@@ -134,11 +153,15 @@ impl<const REMAINDERS: bool> Shared<REMAINDERS> {
             any |= ends | begins;
             due |= (ends as u32) << i;
         }
-        if !any { return 0 }
+        if !any {
+            return 0;
+        }
         self.close();
         let mut answered = 0;
         for (i, q) in self.queries.iter().enumerate() {
-            if due >> i & 1 == 0 { continue }
+            if due >> i & 1 == 0 {
+                continue;
+            }
             self.answer(q, answers, answered);
             answered += 1;
         }
@@ -148,7 +171,9 @@ impl<const REMAINDERS: bool> Shared<REMAINDERS> {
 
 impl<const REMAINDERS: bool> Contender for Shared<REMAINDERS> {
     fn register(&mut self, query: Query) {
-        if !self.queries.is_empty() && self.open.start < self.n { self.close() }
+        if !self.queries.is_empty() && self.open.start < self.n {
+            self.close()
+        }
         let origin = self.n;
         self.open = Partial::new(origin);
         let (due, begin) = (origin + query.slide, origin + query.slide - query.range % query.slide);
@@ -160,8 +185,14 @@ impl<const REMAINDERS: bool> Contender for Shared<REMAINDERS> {
     fn reading(&mut self, value: i32, answers: &mut Answers) -> usize {
         self.n += 1;
         self.open.take(value);
-        if REMAINDERS { return self.edge_by_remainders(answers) }
-        if self.n == self.next_edge { self.edge(answers) } else { 0 }
+        if REMAINDERS {
+            return self.edge_by_remainders(answers);
+        }
+        if self.n == self.next_edge {
+            self.edge(answers)
+        } else {
+            0
+        }
     }
 
     fn totals(&mut self) -> Option<[u64; 4]> {

@@ -10,7 +10,13 @@ const WITHIN: f64 = 1.5; // how much slower than plain code
 
 pub fn print(measured: &[Measured]) {
     println!("## Summary\n");
-    at_most(measured, &format!("library at least as fast as per_query, {SHARED_FROM} queries and more"), Name::PerQuery, SHARED_FROM, 1.0);
+    at_most(
+        measured,
+        &format!("library at least as fast as per_query, {SHARED_FROM} queries and more"),
+        Name::PerQuery,
+        SHARED_FROM,
+        1.0,
+    );
     for to in [Name::PlainShared, Name::PlainRemainders] {
         at_most(measured, &format!("library within {WITHIN} of {}", to.text()), to, 1, WITHIN);
     }
@@ -30,7 +36,9 @@ fn at_most(measured: &[Measured], goal: &str, to: Name, queries: usize, most: f6
         None => println!("- {goal}: not measured"),
         Some([median, least, greatest]) => {
             let [median, least, greatest] = [median, least, greatest].map(ratio);
-            println!("- {goal}: in {holds} of {all} configurations; ratio {median} in the median, {least} to {greatest}");
+            println!(
+                "- {goal}: in {holds} of {all} configurations; ratio {median} in the median, {least} to {greatest}"
+            );
         }
     }
 }
@@ -43,7 +51,10 @@ fn growth(measured: &[Measured], name: Name, queries: usize, slide: u32, values:
 
 fn flatness(measured: &[Measured]) {
     let (shortest, longest) = (RANGES[0], RANGES[RANGES.len() - 1]);
-    println!("Flat in the range: time at range {longest} over time at range {shortest}, library (in brackets plain_shared, per_query)\n");
+    println!(
+        "Flat in the range: time at range {longest} over time at range {shortest}, library (in brackets plain_shared, \
+         per_query)\n"
+    );
     head(&["queries", "slide", "random", "rising", "falling"]);
     let mut all = Vec::new();
     for (queries, slide) in QUERIES.into_iter().flat_map(|q| SLIDES.map(|s| (q, s))) {

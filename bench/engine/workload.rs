@@ -99,6 +99,8 @@ pub fn table_configurations() -> Vec<Configuration> {
 // What the pictures need beyond the tables.
 pub fn picture_configurations() -> Vec<Configuration> {
     let missing = PICTURE_QUERIES.into_iter().filter(|queries| !QUERIES.contains(queries));
-    let with = |queries| PICTURE_SLIDES.map(|slide| Configuration { queries, range: PICTURE_RANGE, slide, values: Values::Random });
+    let with = |queries| {
+        PICTURE_SLIDES.map(|slide| Configuration { queries, range: PICTURE_RANGE, slide, values: Values::Random })
+    };
     missing.flat_map(with).collect()
 }

@@ -1,18 +1,23 @@
 //! Damage: random runs of the five calls through the library's own functions, in which between calls state, records
 //! and tables are damaged and slices are lent too short. After every call it is checked that no place was written that
 //! the call may not write, that 1 is given exactly where a slice is too short, that 2 is given in every case that
-//! document 01 lists, that a refused call changed nothing, and that on undamaged boards the outcome is that of a
-//! reference model.
+//! document 01 lists, that a refused call changed nothing, and that on undamaged boards the outcome is that of the
+//! reference model of `outside/`.
 
 mod board;
 mod call;
 mod check;
+#[allow(dead_code)] // the wrong variants are for the self-test of outside/
+#[path = "../../outside/fault.rs"]
+mod fault;
 mod harm;
 mod judge;
 mod lengths;
 mod places;
 mod profile;
 mod random;
+#[path = "../../outside/reckoner.rs"]
+mod reckoner;
 mod reference;
 mod report;
 mod run;

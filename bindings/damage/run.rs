@@ -57,7 +57,7 @@ impl<'a> Run<'a> {
             before: Board::new(settings.exact),
             clean: Board::new(settings.exact),
             fresh: Vec::new(),
-            reference: Reference::default(),
+            reference: Reference::new(),
             damages: Vec::new(),
             calls: 0,
             last: Call::Start,
