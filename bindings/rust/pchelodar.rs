@@ -278,8 +278,10 @@ pub struct Totals {
 /// The eight slices that a caller lends to each call, the same to every call, as the call before left them.
 ///
 /// A start may be made on any content, and no other call may come first. What did not come from a start by these calls
-/// is refused with 2 or does no harm. Only the first [`STATE_NUMBERS`], [`QUERY_LIMIT`] and [`TABLE_PLACES`] places are
-/// ever written. Where one of the slices has fewer places, every call is refused with 1.
+/// is refused with 2 in the cases that the specification lists. Other damage may pass: nothing undefined happens then
+/// and nothing outside is written, but an accepted answer may be wrong, so a saved engine wants a checksum. Only the
+/// first [`STATE_NUMBERS`], [`QUERY_LIMIT`] and [`TABLE_PLACES`] places are ever written. Where one of the slices has
+/// fewer places, every call is refused with 1.
 ///
 /// The checks go in the order of the numbers; the first that applies decides. A refused call changes nothing: no place
 /// of any slice, and no answer place.
@@ -291,7 +293,8 @@ pub struct Lent<'a> {
     pub queries: &'a mut [Query],
     /// Starts of closed partials.
     pub starts: &'a mut [u32],
-    /// Sums of closed partials.
+    /// Sums by laps: at place p the sum of the partials at the places before p of the same lap of the ring. It is not
+    /// the sum of the partial at p.
     pub sums: &'a mut [i64],
     /// Starts of the partials that stand for maxima.
     pub max_starts: &'a mut [u32],
