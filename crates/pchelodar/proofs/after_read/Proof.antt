@@ -31,7 +31,7 @@ count-requires c κs = search needs
 returns-2 : tie.Need-returns-2
 returns-2 c =
     let s = c .before .before .before .before .before .before .before .before in
-    read-ended (s .args .got) (s .args .chunk .now) _ (sym (below-is s) ∙ c .before .before .if1 .left) (sym (clamped-is s) ∙ sym (c .before .count .ensures .1) ∙ c .if2 .taken)
+    read-ended (s .args .got) (s .args .chunk .now) _ (sym (below-is s) ∙ c .before .before .if1 .left) (omega (arith, clamped-is s, c .before .count .ensures .1, c .if2 .taken))
 
 slice-aggregate-feed-chunk : tie.Need-slice-aggregate-feed-chunk
 slice-aggregate-feed-chunk c = search needs
