@@ -30,7 +30,8 @@ use Rattle.engine.specs.Contracts.{Promise, Ensures, ReadingEnsures, placesAfte
 use Rattle.engine.proofs.Steady.{Steady, call-steady, reading-steady}
 use Rattle.pchelodar_c.specs.Written.{stateNumbers, listNumbers, stateOf, registeredIn, listOf}
 use Rattle.pchelodar_c.specs.Slices.{Slices, slices, roomFor, numbersLong, slicesLong, slicesMachine}
-use Rattle.pchelodar_c.specs.Contracts.{codeOutcome, readingCodeOutcome, totalsCodeOutcome, KeptBeyond, OnNumbers, ReadingOnNumbers, TotalsOnNumbers, PutBack, nothingBack, allBack, ReadingBack, refusedBack, stateBack}
+use Rattle.pchelodar_c.specs.Contracts.{codeOutcome, readingCodeOutcome, totalsCodeOutcome, KeptBeyond, OnNumbers, ReadingOnNumbers, TotalsOnNumbers}
+use Rattle.pchelodar_c.specs.PutBack.{PutBack, nothingBack, allBack, ReadingBack, refusedBack, stateBack}
 
 -- ---- room for the numbers
 

@@ -68,6 +68,21 @@ unfolding recordsIn
 read-again [] rest = refl
 read-again (q ∷ qs) rest = ap (λ (r : List Query). q ∷ r) (read-again qs rest)
 
+-- numbers that are read as k records are those of these records
+pub numbers-are : (k : ℕ) (ns : List ℕ) → queryNumbers * k ≤ length ns → take (queryNumbers * k) ns ≡ numbersIn (recordsIn k ns)
+unfolding recordsIn
+numbers-are zero ns l = refl
+numbers-are (suc k) [] l = absurd (omega arith)
+numbers-are (suc k) (a ∷ []) l = absurd (omega arith)
+numbers-are (suc k) (a ∷ b ∷ []) l = absurd (omega arith)
+numbers-are (suc k) (a ∷ b ∷ c ∷ []) l = absurd (omega arith)
+numbers-are (suc k) (a ∷ b ∷ c ∷ d ∷ []) l = absurd (omega arith)
+numbers-are (suc k) (a ∷ b ∷ c ∷ d ∷ e ∷ ns) l =
+    ap (λ (j : ℕ). take j (a ∷ b ∷ c ∷ d ∷ e ∷ ns)) (next k) ∙ ap (λ (r : List ℕ). a ∷ b ∷ c ∷ d ∷ e ∷ r) (numbers-are k ns (omega arith))
+  where
+    next : (m : ℕ) → queryNumbers * suc m ≡ suc (suc (suc (suc (suc (queryNumbers * m)))))
+    next m = omega arith
+
 -- ---- five places after the other
 
 -- five stores

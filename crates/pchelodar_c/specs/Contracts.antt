@@ -6,19 +6,11 @@ use mathlib.Core.Path.{_≡_}
 use mathlib.Core.Bool.{true, false}
 use mathlib.Core.List.{List, [], _∷_}
 use lib.IntN.{ℤ}
-use lib.ListN.{length, take, drop}
-use Rattle.window.specs.declared.refusal.Refusal.{Refusal}
-use Rattle.window.specs.declared.refusal.Verdict.the-variants.{Passed, Refused}
-use Rattle.window.specs.Refusals.{refusalNumber}
+use lib.ListN.{length, drop}
 use Rattle.window.specs.Calls.{Outcome, accepted, refused, totals}
-use Rattle.registry.specs.Records.{recordLimit}
-use Rattle.engine.specs.declared.calls.Reply.{Reply}
-use Rattle.engine.specs.declared.calls.ReadingReply.{ReadingReply}
-use Rattle.engine.specs.declared.calls.Answered.the-variants as answered
 use Rattle.engine.specs.Answers.{answersIn}
-use Rattle.engine.specs.Machine.{Machine}
-use Rattle.engine.specs.Contracts.{Ensures, ReadingEnsures, placesAfter}
-use Rattle.pchelodar_c.specs.Written.{stateNumbers, stateOf, registeredIn, listNumbers, recordsIn}
+use Rattle.engine.specs.Contracts.{Promise, Ensures, ReadingEnsures, placesAfter}
+use Rattle.pchelodar_c.specs.Written.{stateNumbers, listNumbers}
 use Rattle.pchelodar_c.specs.Slices.{Slices, numbersLong, slicesLong, slicesMachine}
 
 -- ---- document 01's numbers and values for what the calls return: 0 is an acceptance, any other number the refusal's
@@ -40,10 +32,6 @@ totalsCodeOutcome zero four = accepted four []
 totalsCodeOutcome (suc k) four = refused (suc k)
 
 -- ---- the promises
-
--- what a call of the engine says of the machine before it, its outcome and the machine after it
-abbrev pub Promise : Type 1
-Promise = Machine → Outcome → Machine → Type 0
 
 -- a slice is as long as it was, and beyond its first k places it is as it was
 pub record KeptBeyond (k : ℕ) (before after : List ℕ) : Type 0 where
@@ -76,20 +64,3 @@ pub record ReadingOnNumbers (v : ℤ) (before after : List ℤ) (given given′ 
 pub record TotalsOnNumbers (before after : List ℕ) (m : Slices) (o : Outcome) : Type 0 where
   pub onNumbers : OnNumbers (Ensures totals) m o m
   pub untold : (k : ℕ) → o ≡ refused k → after ≡ before
-
--- ---- what is put back after a call of the engine
-
--- of a reply to start, register or withdraw, to a state of the numbers w and a query list of the numbers ns: nothing
--- where the call was refused, and else what is read again as the reply
-pub data PutBack (reply : Reply) (w ns : List ℕ) : ℕ → List ℕ → List ℕ → Type 0 where
-  nothingBack : (refusal : Refusal) → reply .verdict ≡ Refused refusal → PutBack reply w ns (refusalNumber refusal) w ns
-  allBack : {w′ ns′ : List ℕ} → reply .verdict ≡ Passed
-      → stateOf (take stateNumbers w′) ≡ reply .state → registeredIn (take stateNumbers w′) ≡ reply .queries .count → recordsIn recordLimit ns′ ≡ reply .queries .records
-      → KeptBeyond stateNumbers w w′ → KeptBeyond listNumbers ns ns′ → PutBack reply w ns 0 w′ ns′
-
--- of a reply to a reading, with so many queries registered, to a state of the numbers w and a place for the number of
--- answers
-pub data ReadingBack (reply : ReadingReply) (registered : ℕ) (w : List ℕ) (given : ℕ) : ℕ → List ℕ → ℕ → Type 0 where
-  refusedBack : (refusal : Refusal) → reply .outcome ≡ answered.Refused refusal → ReadingBack reply registered w given (refusalNumber refusal) w given
-  stateBack : {w′ : List ℕ} (k : ℕ) → reply .outcome ≡ answered.Answers k
-      → stateOf (take stateNumbers w′) ≡ reply .state → registeredIn (take stateNumbers w′) ≡ registered → KeptBeyond stateNumbers w w′ → ReadingBack reply registered w given 0 w′ k

@@ -1,38 +1,73 @@
--- Demand 3 for the calls on lent numbers. `proofs/Agreement.antt` proves it.
+-- Demand 3 for the calls on lent numbers, of what a caller in C receives. `proofs/Agreement.antt` proves it.
+--
+-- For every list of calls whose numbers are of the types that the functions take there is a run: each of the five
+-- functions is proved to return on every input, and what it returns and leaves meets its contract, which gives
+-- `Performs` (`returned-performs`, `reading-performs`, `totals-performs`). So from every fresh one `Performed` has a
+-- run for every such list of calls and all answer tables.
 -- Assumes nothing.
 use Prim.Native.Nat.{ℕ, _≤_}
 use mathlib.Core.Path.{_≡_}
 use mathlib.Core.Bool.{true}
 use mathlib.Core.List.{List}
 use lib.IntN.{ℤ}
+use lib.ListN.{length, take, replicate}
 use Rattle.window.specs.Calls.{Call, start, register, withdraw, reading, totals, Outcome, refused}
-use Rattle.window.specs.Model.{initial, totalsOf, Ran, run}
-use Rattle.engine.specs.Contracts.{Ensures, StartEnsures}
+use Rattle.window.specs.Model.{initial, totalsOf, Ran, run, reached}
+use Rattle.engine.specs.Machine.{HoldsLive, Represents}
+use Rattle.engine.specs.Contracts.{Promise, Ensures, StartEnsures}
 use Rattle.engine.specs.Demand3 as below
-use Rattle.engine.specs.Demand3.{Reads, Performed}
+use Rattle.engine.specs.Demand3.{Performed}
+use Rattle.pchelodar_c.specs.Written.{listNumbers}
 use Rattle.pchelodar_c.specs.Slices.{Slices, slicesLong, slicesMachine}
-use Rattle.pchelodar_c.specs.Contracts.{OnNumbers, ReadingOnNumbers, TotalsOnNumbers}
+use Rattle.pchelodar_c.specs.Contracts.{codeOutcome, readingCodeOutcome, totalsCodeOutcome, OnNumbers, ReadingOnNumbers, TotalsOnNumbers}
 
--- a reading, whatever the place for the number of answers held and holds
-pub record ReadsNumbers (v : ℤ) (before after : List ℤ) (m : Slices) (o : Outcome) (m′ : Slices) : Type 0 where
+-- ---- a call, with all that its caller finds: `ensures` is the function's contract, and `read` says that the outcome
+-- is what the caller reads off the returned code and the places after the call
+
+-- start, register and withdraw
+pub record Returned (promise : Promise) (m : Slices) (o : Outcome) (m′ : Slices) : Type 0 where
+  pub code : ℕ
+  pub read : o ≡ codeOutcome code
+  pub ensures : OnNumbers promise m (codeOutcome code) m′
+
+-- the reading v: an answer table of so many places, with any content, before and after it, and the place for the number
+-- of answers before and after it
+pub record ReadingReturned (v : ℤ) (places : ℕ) (m : Slices) (o : Outcome) (m′ : Slices) : Type 0 where
+  pub before : List ℤ
+  pub after : List ℤ
   pub given : ℕ
   pub given′ : ℕ
-  pub onPlaces : ReadingOnNumbers v before after given given′ m o m′
+  pub code : ℕ
+  pub long : length before ≡ places
+  pub read : o ≡ readingCodeOutcome code given′ after
+  pub ensures : ReadingOnNumbers v before after given given′ m (readingCodeOutcome code given′ after) m′
 
--- the call c on m came to o and left m′: what the contracts of the five calls say of it
+-- totals: its four places before and after it
+pub record TotalsReturned (m : Slices) (o : Outcome) (m′ : Slices) : Type 0 where
+  pub before : List ℕ
+  pub after : List ℕ
+  pub code : ℕ
+  pub read : o ≡ totalsCodeOutcome code after
+  pub ensures : TotalsOnNumbers before after m (totalsCodeOutcome code after)
+  -- nothing but the four places is lent for writing
+  pub same : m′ ≡ m
+
+-- ---- the claim
+
+-- the call c on m came to o and left m′
 abbrev pub Performs : Call → Slices → Outcome → Slices → Type 0
-Performs start m o m′ = OnNumbers StartEnsures m o m′
-Performs (register number kind range slide) m o m′ = OnNumbers (Ensures (register number kind range slide)) m o m′
-Performs (withdraw number) m o m′ = OnNumbers (Ensures (withdraw number)) m o m′
-Performs (reading v places) m o m′ = Reads ReadsNumbers v places m o m′
-Performs totals m o m′ = OnNumbers (Ensures totals) m o m′
+Performs start m o m′ = Returned StartEnsures m o m′
+Performs (register number kind range slide) m o m′ = Returned (Ensures (register number kind range slide)) m o m′
+Performs (withdraw number) m o m′ = Returned (Ensures (withdraw number)) m o m′
+Performs (reading v places) m o m′ = ReadingReturned v places m o m′
+Performs totals m o m′ = TotalsReturned m o m′
 
 -- a fresh engine: one just started on slices that pass check 1, whatever they held
 pub record Fresh (m : Slices) : Type 0 where
   pub before : Slices
   pub outcome : Outcome
   pub long : slicesLong before ≡ true
-  pub started : OnNumbers StartEnsures before outcome m
+  pub started : Performs start before outcome m
 
 -- a run that came to the outcomes os and left m, against the model's run r of the same calls
 pub record AgreesWith (r : Ran) (os : List Outcome) (m : Slices) : Type 0 where
@@ -47,7 +82,23 @@ abbrev pub Demand3 : Type 0
 Demand3 = (fresh : Slices) → Fresh fresh → (calls : List Call) (outcomes : List Outcome) (m : Slices)
     → Performed Performs fresh calls outcomes m → AgreesWith (run initial calls) outcomes m
 
--- and beside it: no call on what came from a start is refused with 1 or 2
+-- ---- beside it
+
+-- what came from a start by these calls represents the state that the model comes to by them
+abbrev pub FromStart : Type 0
+FromStart = (fresh : Slices) → Fresh fresh → (calls : List Call) (outcomes : List Outcome) (m : Slices)
+    → Performed Performs fresh calls outcomes m → Represents (reached calls) (slicesMachine m)
+
+-- its tables hold what is live, and what stands of it
+abbrev pub BoardLive : Type 0
+BoardLive = (fresh : Slices) → Fresh fresh → (calls : List Call) (outcomes : List Outcome) (m : Slices)
+    → Performed Performs fresh calls outcomes m → HoldsLive (reached calls) (slicesMachine m .state) (m .tables)
+
+-- no call on it is refused with 1 or 2
 abbrev pub NeverDamaged : Type 0
 NeverDamaged = (fresh : Slices) → Fresh fresh → (calls : List Call) (outcomes : List Outcome) (m : Slices)
     → Performed Performs fresh calls outcomes m → (c : Call) (o : Outcome) (m′ : Slices) → Performs c m o m′ → (k : ℕ) → o ≡ refused k → 3 ≤ k
+
+-- and a start that returned 0 left the 160 numbers of the query list 0
+abbrev pub StartZeroes : Type 0
+StartZeroes = (m m′ : Slices) → OnNumbers StartEnsures m (codeOutcome 0) m′ → take listNumbers (m′ .queries) ≡ replicate listNumbers 0

@@ -2,4 +2,5 @@ pub mod Signed
 pub mod Written
 pub mod Slices
 pub mod Contracts
+pub mod PutBack
 pub mod Demand3

@@ -25,7 +25,8 @@ ghost use Rattle.engine.specs.Tables.{tables};
 ghost use Rattle.engine.specs.Contracts.{StartEnsures, Ensures};
 ghost use Rattle.pchelodar_c.specs.Written.{stateNumbers, listNumbers};
 ghost use Rattle.pchelodar_c.specs.Slices.{slices, roomFor};
-ghost use Rattle.pchelodar_c.specs.Contracts.{codeOutcome, readingCodeOutcome, totalsCodeOutcome, OnNumbers, ReadingOnNumbers, TotalsOnNumbers, PutBack, ReadingBack};
+ghost use Rattle.pchelodar_c.specs.Contracts.{codeOutcome, readingCodeOutcome, totalsCodeOutcome, OnNumbers, ReadingOnNumbers, TotalsOnNumbers};
+ghost use Rattle.pchelodar_c.specs.PutBack.{PutBack, ReadingBack};
 
 // Whether there are places for the numbers of a state and of a query list.
 fn room_for(state: usize, queries: usize) -> bool

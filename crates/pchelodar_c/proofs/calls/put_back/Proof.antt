@@ -1,5 +1,5 @@
 -- `put_back` meets its contract. Assumes nothing.
-use Rattle.pchelodar_c.specs.Contracts.{nothingBack, allBack}
+use Rattle.pchelodar_c.specs.PutBack.{nothingBack, allBack}
 use Rattle.pchelodar_c.proofs.Copies.{state-kept, list-kept}
 use borrow.Author.Needs.{needs}
 use Rattle.pchelodar_c.proofs.calls.put_back.Statement.{statement}

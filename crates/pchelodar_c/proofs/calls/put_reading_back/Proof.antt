@@ -1,5 +1,5 @@
 -- `put_reading_back` meets its contract. Assumes nothing.
-use Rattle.pchelodar_c.specs.Contracts.{refusedBack, stateBack}
+use Rattle.pchelodar_c.specs.PutBack.{refusedBack, stateBack}
 use Rattle.pchelodar_c.proofs.Copies.{state-kept}
 use borrow.Author.Needs.{needs}
 use Rattle.pchelodar_c.proofs.calls.put_reading_back.Statement.{statement}
