@@ -29,10 +29,11 @@ pub record Reads {M : Type 0} (promised : ℤ → List ℤ → List ℤ → M �
   pub ensures : promised v before after m o m′
 
 -- a list of calls, each on what the call before left, with the outcome of each. `performs` says what one call promises.
--- For every list of calls and all answer tables there is such a run from every fresh engine: each of the five functions
--- is proved to return on every input, with no `requires`, and what it returns and leaves meets its contract, which is
--- what `performs` says; so the functions' own returns make one. (That is read off the proofs of the functions; it is
--- not a law stated here.) The claim below speaks of every run, and so of those that the functions make
+-- For every list of calls whose numbers are of the types that the functions take, and all answer tables, there is such
+-- a run from every fresh engine: each of the five functions is proved to return on every input, with no `requires`, and
+-- what it returns and leaves meets its contract, which is what `performs` says; so the functions' own returns make one.
+-- (That is read off the proofs of the functions; it is no law stated here.) The claim below speaks of every run, and so
+-- of those that the functions make
 pub data Performed {M : Type 0} (performs : Call → M → Outcome → M → Type 0) : M → List Call → List Outcome → M → Type 0 where
   -- no call leaves all as it is
   ended : {m : M} → Performed performs m [] [] m
