@@ -48,17 +48,19 @@ fn table_names(sources: &Sources) -> Vec<Finding> {
     found
 }
 
-/// The extremes of the open partial, other than as arguments of a closing step.
+/// Any mention of the open partial's extremes but as an argument of a closing step, `a.maximum`.
 fn open_fields(function: &Function, list: &[Tree], found: &mut Vec<Finding>) {
     for at in 0..list.len() {
-        let field = list[at].word().is_some_and(|word| OPEN_FIELDS.contains(&word));
-        if field && at > 0 && list[at - 1].is_sign(".") {
+        if list[at].word().is_some_and(|word| OPEN_FIELDS.contains(&word)) {
             let what = format!("an extreme of the open partial goes to something else than `{CLOSING}`");
             found.push(function.finding(list[at].line, what));
         }
-        let closes = at > 0 && list[at - 1].is_word(CLOSING) && list[at].group('(').is_some();
-        if !closes {
-            open_fields(function, list[at].inner().unwrap_or_default(), found);
+        let closes = at > 0 && list[at - 1].is_word(CLOSING);
+        let plain = |part: &[Tree]| part.len() == 3 && part[1].is_sign(".");
+        for part in split(list[at].inner().unwrap_or_default(), ",") {
+            if !(closes && plain(part)) {
+                open_fields(function, part, found);
+            }
         }
     }
 }
