@@ -1,5 +1,6 @@
 """A whole proof: what it cites, and its parts in their order."""
 import re
+import textwrap
 
 from rows import cited, dotted
 from steps import Steps
@@ -55,6 +56,17 @@ RECORDS = {
 RUNNING = "contract.Running.{givenOf, tables as tables-of, tablesOf}"
 
 
+def wrapped(text):
+    """A text whose comments are wrapped at 120 columns."""
+
+    def comment(found):
+        head = found.group(1)
+        return "\n".join(textwrap.wrap(found.group(2), 120, initial_indent=head, subsequent_indent=head,
+                                       break_long_words=False, break_on_hyphens=False))
+
+    return re.sub(r"^( *-- )(.*)$", comment, text, flags=re.M)
+
+
 class Proof(Steps):
     def uses(self, body):
         """The `use` lines: of the modules that are known by name, the names that stand in the body."""
@@ -101,5 +113,6 @@ class Proof(Steps):
         self.write_spec()
         proof = "\n".join(self.lines)
         kept = "The records stay lent." if self.shared else "At the end the records are given up to what puts back."
-        head = f"-- `{self.name}` meets its contract: a walk of its MIR, written by tools/walks. The records are copied, and the callee is called on the copy. {kept}\n-- Assumes nothing.\n"
-        return re.sub(r"\n\n\n+", "\n\n", head + self.uses(proof) + "\n\n" + proof.rstrip("\n") + "\n")
+        head = (f"-- `{self.name}` meets its contract: a walk of its MIR, written by tools/walks. The records are copied, "
+                f"and the callee is called on the copy. {kept}\n-- Assumes nothing.\n")
+        return wrapped(re.sub(r"\n\n\n+", "\n\n", head + self.uses(proof) + "\n\n" + proof.rstrip("\n") + "\n"))

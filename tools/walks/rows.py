@@ -36,7 +36,8 @@ def cited(crate, own, part, rest):
 
 
 class Row:
-    """A type, as a walk cites it: a number, a record of the query list, or a declared type whose names stand in a module of rows."""
+    """A type, as a walk cites it: a number, a record of the query list, or a declared type whose names stand in a
+    module of rows."""
 
     WIDTH = {"u32": "w32", "i32": "w32", "i64": "w64", "usize": "w64"}
     NAMES = ["row", "ty", "vals", "tells", "lawful", "makes"]

@@ -31,7 +31,8 @@ class Statement:
         self.callee_result = self.outcome or self.result
         self.local_of = {p.name: i + 1 for i, p in enumerate(self.params)}
         self.param_at = {i + 1: p for i, p in enumerate(self.params)}
-        # what is known of the callee's result: with no slice passed the call is one step of `Plain`, which says it at once
+        # what is known of the callee's result: with no slice passed the call is one step of `Plain`, which says it at
+        # once
         got = self.callee_result
         self.result_is = f"(seen {got.row} {got.named('vals')} {got.named('tells')} r u is′)" if self.board else "is"
         self.stores = self.outcome and not self.puts

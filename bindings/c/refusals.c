@@ -1,0 +1,287 @@
+/* Every refusal, 1 to 11, from every call that can give it: the number that comes back is compared with document 01's
+ * and with the name that the header gives it, and a refused call must have changed nothing. What the header says of
+ * records and counts is asserted when this is compiled. Prints one line, or what failed, with status 1. */
+#include <inttypes.h>
+#include <stdio.h>
+#include <stdlib.h>
+#include <string.h>
+
+#include "pchelodar.h"
+
+/* Document 01, "The board": a record holds number, kind, r, s and g, in this order. */
+_Static_assert(offsetof(struct pchelodar_query, number) == 0, "the first number of a record is the query's number");
+_Static_assert(offsetof(struct pchelodar_query, kind) == 4, "the second is its kind");
+_Static_assert(offsetof(struct pchelodar_query, range) == 8, "the third is its range");
+_Static_assert(offsetof(struct pchelodar_query, slide) == 12, "the fourth is its slide");
+_Static_assert(offsetof(struct pchelodar_query, origin) == 16, "the fifth is its registration point");
+_Static_assert(sizeof(struct pchelodar_query) == 20, "a record is five numbers of 32 bits");
+
+/* Document 01's counts and kinds, and the library's 18 numbers of the state. */
+_Static_assert(PCHELODAR_STATE_NUMBERS == 18, "numbers of the state");
+_Static_assert(PCHELODAR_QUERY_NUMBERS == 5, "numbers of a record");
+_Static_assert(PCHELODAR_QUERY_LIMIT == 32, "queries that are registered together");
+_Static_assert(PCHELODAR_LIST_NUMBERS == 160, "numbers of the query list");
+_Static_assert(PCHELODAR_TABLE_PLACES == 4096, "places of a table");
+_Static_assert(PCHELODAR_ANSWER_PLACES == 4, "places of an answer");
+_Static_assert(PCHELODAR_SUM == 1 && PCHELODAR_COUNT == 2, "kinds 1 and 2");
+_Static_assert(PCHELODAR_MAXIMUM == 3 && PCHELODAR_MINIMUM == 4, "kinds 3 and 4");
+
+/* The header's names, each at document 01's number. */
+#define REFUSAL(number, name) [number] = {#name, name}
+static const struct {
+    const char *name;
+    uint32_t value;
+} named[] = {
+    REFUSAL(1, PCHELODAR_TABLE_TOO_SHORT),    REFUSAL(2, PCHELODAR_DAMAGED),
+    REFUSAL(3, PCHELODAR_NUMBER_OUTSIDE),     REFUSAL(4, PCHELODAR_KIND_OUTSIDE),
+    REFUSAL(5, PCHELODAR_RANGE_OUTSIDE),      REFUSAL(6, PCHELODAR_SLIDE_OUTSIDE),
+    REFUSAL(7, PCHELODAR_NUMBER_TAKEN),       REFUSAL(8, PCHELODAR_LIST_FULL),
+    REFUSAL(9, PCHELODAR_NOT_REGISTERED),     REFUSAL(10, PCHELODAR_COUNT_EXHAUSTED),
+    REFUSAL(11, PCHELODAR_ANSWERS_TOO_SHORT),
+};
+enum { REFUSALS = 11 };
+
+/* The calls, and document 01's refusals of each ("The calls and where each refuses"). */
+enum call { START, REGISTER, WITHDRAW, READING, TOTALS, CALLS };
+static const char *const call_names[CALLS] = {"start", "register", "withdraw", "reading", "totals"};
+static const int own[CALLS][REFUSALS + 1] = {
+    [START] = {[1] = 1},
+    [REGISTER] = {[1] = 1, [2] = 1, [3] = 1, [4] = 1, [5] = 1, [6] = 1, [7] = 1, [8] = 1},
+    [WITHDRAW] = {[1] = 1, [2] = 1, [9] = 1},
+    [READING] = {[1] = 1, [2] = 1, [10] = 1, [11] = 1},
+    [TOTALS] = {[1] = 1, [2] = 1},
+};
+
+/* Everything that a call is lent, so that it can be compared as a whole. */
+struct board {
+    uint64_t state[PCHELODAR_STATE_NUMBERS];
+    struct pchelodar_query queries[PCHELODAR_QUERY_LIMIT];
+    uint32_t starts[PCHELODAR_TABLE_PLACES];
+    int64_t sums[PCHELODAR_TABLE_PLACES];
+    uint32_t max_starts[PCHELODAR_TABLE_PLACES];
+    int32_t max_values[PCHELODAR_TABLE_PLACES];
+    uint32_t min_starts[PCHELODAR_TABLE_PLACES];
+    int32_t min_values[PCHELODAR_TABLE_PLACES];
+    int64_t answers[PCHELODAR_QUERY_LIMIT * PCHELODAR_ANSWER_PLACES];
+    size_t answered;
+    uint64_t totals[4];
+};
+static struct board board, before;
+
+/* Where n and the count of registered queries stand in the state, as the library has it. */
+enum { N = 0, REGISTERED = 17 };
+
+/* How many places of each slice are lent: the state, the query list and the six tables; and the answer places. */
+enum { SLICES = 8 };
+static const size_t enough[SLICES] = {18, 160, 4096, 4096, 4096, 4096, 4096, 4096};
+static size_t places[SLICES], answer_places;
+
+/* What a call asks: a query's fields, of which a withdrawal takes the number, or a reading. */
+struct asked {
+    uint32_t number, kind, range, slide;
+    int32_t value;
+};
+static const struct asked query_9 = {.number = 9, .kind = 1, .range = 1, .slide = 1};
+
+#define LENT                                                                                                  \
+    board.state, places[0], &board.queries[0].number, places[1], board.starts, places[2], board.sums,         \
+        places[3], board.max_starts, places[4], board.max_values, places[5], board.min_starts, places[6],     \
+        board.min_values, places[7]
+
+static uint32_t make(enum call call, struct asked asked)
+{
+    switch (call) {
+    case START:
+        return pchelodar_start(LENT);
+    case REGISTER:
+        return pchelodar_register(LENT, asked.number, asked.kind, asked.range, asked.slide);
+    case WITHDRAW:
+        return pchelodar_withdraw(LENT, asked.number);
+    case READING:
+        return pchelodar_reading(LENT, board.answers, answer_places, &board.answered, asked.value);
+    default:
+        return pchelodar_totals(LENT, board.totals);
+    }
+}
+
+static int calls_made, given[CALLS][REFUSALS + 1];
+
+static void fail(enum call call, const char *what, uint32_t code)
+{
+    printf("refusals: %s: %s, %" PRIu32 " came back\n", call_names[call], what, code);
+    exit(1);
+}
+
+/* The call is refused, with document 01's number, which is that of the header's name, and changes nothing. */
+static void refused(enum call call, struct asked asked, uint32_t number)
+{
+    char what[100];
+    memcpy(&before, &board, sizeof board);
+    uint32_t code = make(call, asked);
+    calls_made++;
+    snprintf(what, sizeof what, "refusal %" PRIu32 " is due", number);
+    if (code != number)
+        fail(call, what, code);
+    snprintf(what, sizeof what, "%s is %" PRIu32, named[number].name, named[number].value);
+    if (code != named[number].value)
+        fail(call, what, code);
+    if (memcmp(&before, &board, sizeof board) != 0)
+        fail(call, "a refused call changed something", code);
+    given[call][number]++;
+}
+
+static void accepted(enum call call, struct asked asked)
+{
+    uint32_t code = make(call, asked);
+    calls_made++;
+    if (code != 0)
+        fail(call, "it is to be accepted", code);
+}
+
+/* A fresh engine, on slices of just the places that are needed. */
+static void fresh(void)
+{
+    memcpy(places, enough, sizeof enough);
+    answer_places = sizeof board.answers / sizeof board.answers[0];
+    accepted(START, query_9);
+}
+
+/* Queries 1 and 2, and three readings. */
+static void begun(void)
+{
+    fresh();
+    accepted(REGISTER, (struct asked){.number = 1, .kind = PCHELODAR_SUM, .range = 5, .slide = 2});
+    accepted(REGISTER, (struct asked){.number = 2, .kind = PCHELODAR_MINIMUM, .range = 4096, .slide = 4096});
+    for (int32_t i = 0; i < 3; i++)
+        accepted(READING, (struct asked){.value = 7 * i - 4});
+}
+
+/* 1: each slice one place too short, and with none, to every call. */
+static void too_short(void)
+{
+    for (enum call call = START; call < CALLS; call++)
+        for (int slice = 0; slice < SLICES; slice++)
+            for (int none = 0; none < 2; none++) {
+                begun();
+                places[slice] = none ? 0 : enough[slice] - 1;
+                refused(call, query_9, 1);
+            }
+}
+
+/* What document 01 lists under 2, one case at a time. */
+enum { DAMAGES = 11 };
+static void damage(int which)
+{
+    struct pchelodar_query *second = &board.queries[1];
+    switch (which) {
+    case 0: board.state[REGISTERED] = 33; break;
+    case 1: second->number = 0; break;
+    case 2: second->number = 65536; break;
+    case 3: second->kind = 0; break;
+    case 4: second->kind = 5; break;
+    case 5: second->range = 0; break;
+    case 6: second->range = 4097; break;
+    case 7: second->slide = 0; break;
+    case 8: second->slide = 4097; break;
+    case 9: second->origin = 4; break;
+    default: second->number = board.queries[0].number; break;
+    }
+}
+
+/* 2: each of them, to every call but start. */
+static void damaged(void)
+{
+    for (enum call call = REGISTER; call < CALLS; call++)
+        for (int which = 0; which < DAMAGES; which++) {
+            begun();
+            damage(which);
+            refused(call, query_9, 2);
+        }
+}
+
+/* 3 to 6: each field of a registration just outside its limits; the limits themselves are accepted. */
+static void outside(void)
+{
+    static const struct {
+        uint32_t refusal;
+        struct asked asked;
+    } cases[] = {
+        {3, {.number = 0, .kind = 1, .range = 1, .slide = 1}},
+        {3, {.number = 65536, .kind = 1, .range = 1, .slide = 1}},
+        {4, {.number = 9, .kind = 0, .range = 1, .slide = 1}},
+        {4, {.number = 9, .kind = 5, .range = 1, .slide = 1}},
+        {5, {.number = 9, .kind = 1, .range = 0, .slide = 1}},
+        {5, {.number = 9, .kind = 1, .range = 4097, .slide = 1}},
+        {6, {.number = 9, .kind = 1, .range = 1, .slide = 0}},
+        {6, {.number = 9, .kind = 1, .range = 1, .slide = 4097}},
+        {3, {.number = 0, .kind = 9, .range = 0, .slide = 0}}, /* the first that applies decides */
+    };
+    begun();
+    for (size_t i = 0; i < sizeof cases / sizeof cases[0]; i++)
+        refused(REGISTER, cases[i].asked, cases[i].refusal);
+    accepted(REGISTER, (struct asked){.number = 65535, .kind = 4, .range = 4096, .slide = 4096});
+}
+
+/* 7, 8 and 9: a number that is taken, a 33rd query, and a number that is not registered. */
+static void listed(void)
+{
+    struct asked next = query_9;
+    begun();
+    next.number = 2;
+    refused(REGISTER, next, 7);
+    for (next.number = 3; next.number <= 32; next.number++)
+        accepted(REGISTER, next);
+    refused(REGISTER, next, 8);
+    refused(WITHDRAW, next, 9);
+    next.number = 17;
+    refused(REGISTER, next, 7); /* 7 is judged before 8 */
+    accepted(WITHDRAW, next);
+    refused(WITHDRAW, next, 9);
+    accepted(REGISTER, next);
+}
+
+/* 10: n is written into the state, since so many readings take long; with no query, and before 11 with one. */
+static void exhausted(void)
+{
+    fresh();
+    board.state[N] = 4294967295;
+    refused(READING, query_9, 10);
+    accepted(REGISTER, query_9);
+    answer_places = 0;
+    refused(READING, query_9, 10);
+    accepted(WITHDRAW, query_9);
+    board.state[N] = 4294967294;
+    accepted(READING, query_9); /* the last that can be counted */
+    refused(READING, query_9, 10);
+}
+
+/* 11: one place too few for the queries that are due, and no place at all. */
+static void answers_short(void)
+{
+    begun();
+    accepted(REGISTER, query_9); /* due at every reading; query 1 is due at the next one too */
+    for (answer_places = 0; answer_places < 8; answer_places++)
+        refused(READING, query_9, 11);
+    accepted(READING, query_9);
+    if (board.answered != 2)
+        fail(READING, "two answers are due", (uint32_t)board.answered);
+}
+
+int main(void)
+{
+    too_short();
+    damaged();
+    outside();
+    listed();
+    exhausted();
+    answers_short();
+    int pairs = 0;
+    for (enum call call = START; call < CALLS; call++)
+        for (uint32_t number = 1; number <= REFUSALS; number++) {
+            if (own[call][number] != (given[call][number] > 0))
+                fail(call, "another set of refusals than document 01's", number);
+            pairs += own[call][number];
+        }
+    printf("%d refusals from %d pairs of a call and a refusal, %d calls\n", REFUSALS, pairs, calls_made);
+    return 0;
+}
