@@ -18,16 +18,13 @@ use std::process::exit;
 
 struct Rule {
     name: &'static str,
-    /// Whether it is tried where no rule is named.
-    on: bool,
     find: fn(&Sources) -> Vec<Finding>,
 }
 
 const RULES: [Rule; 3] = [
-    Rule { name: "comparison", on: true, find: comparison::rule },
-    Rule { name: "values", on: true, find: values::rule },
-    // off until the session program has `after_read` and `after_write`
-    Rule { name: "session", on: false, find: session::rule },
+    Rule { name: "comparison", find: comparison::rule },
+    Rule { name: "values", find: values::rule },
+    Rule { name: "session", find: session::rule },
 ];
 
 fn main() {
@@ -53,7 +50,7 @@ fn check(root: &Path, folder: &Path, named: &[String]) -> Result<String, Vec<Str
     if let Some(name) = named.iter().find(unknown) {
         return Err(vec![format!("no rule `{name}`")]);
     }
-    let tried = |rule: &&Rule| if named.is_empty() { rule.on } else { named.iter().any(|name| name == rule.name) };
+    let tried = |rule: &&Rule| named.is_empty() || named.iter().any(|name| name == rule.name);
     let rules: Vec<&Rule> = RULES.iter().filter(tried).collect();
     let texts = source::load(root).map_err(|error| vec![error])?;
     let findings = findings(&rules, &texts);

@@ -83,9 +83,8 @@ fn feed_chunk(
         held = taken.session;
         let to = taken.to;
         let at = taken.at;
-        let next = after_feed(from, to);
         let said = io::write_all(STDOUT_FILENO, &out[..at]);
-        let progress = after_write(said, next);
+        let progress = after_write(said, after_feed(from, to));
         match progress {
             Progress::Onward => {}
             _ => return Running {

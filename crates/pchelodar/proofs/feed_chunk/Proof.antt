@@ -35,21 +35,21 @@ loop-holds c =
 feed-requires : tie.Need-feed-requires Inv-loop μ-loop
 feed-requires c κs = tt
 
-after-feed-requires : tie.Need-after-feed-requires Inv-loop μ-loop
-after-feed-requires c κs = tt
-
 slice-reshare-prefix-write-all : tie.Need-slice-reshare-prefix-write-all Inv-loop μ-loop
 slice-reshare-prefix-write-all c =
-    let at-feed = c .before .before .before .before .before .before .before .before .before .before .before .before .before in
+    let at-feed = c .before .before .before .before .before .before .before .before .before .before .before .before in
     omega (arith, at-feed .feed .ensures .taken .fits)
 
 slice-aggregate-write-all : tie.Need-slice-aggregate-write-all Inv-loop μ-loop
 slice-aggregate-write-all c =
-    let at-feed = c .before .before .before .before .before .before .before .before .before .before .before .before .before .before in
+    let at-feed = c .before .before .before .before .before .before .before .before .before .before .before .before .before in
     omega (arith, at-feed .feed .ensures .taken .fits, length-take (at-feed .feed .result .at) (at-feed .feed .last .1 .1 .1 .1 .1 .1 .1 .1 .1 .0))
 
 write-all-requires : tie.Need-write-all-requires Inv-loop μ-loop
 write-all-requires c κs = tt
+
+after-feed-requires : tie.Need-after-feed-requires Inv-loop μ-loop
+after-feed-requires c κs = tt
 
 after-write-requires : tie.Need-after-write-requires Inv-loop μ-loop
 after-write-requires c κs = tt
@@ -95,23 +95,25 @@ same-length-7 c =
 returns : tie.Need-returns Inv-loop μ-loop
 returns c =
     let at-write = c .before in
-    let at-next = at-write .before .before .before in
-    let at-feed = at-next .before .before .before .before .before .before .before .before .before .before .before .before .before in
+    let at-next = at-write .before in
+    let at-said = at-next .before in
+    let at-feed = at-said .before .before .before .before .before .before .before .before .before .before .before .before .before .before in
     let at-loop = at-feed .before .before .before .before .before .before .before .before .before in
     let at-start = at-loop .before .before .before .before .before .before in
-    stopped (at-start .args .chunk .now) (at-write .before .write-all .result) _ _ (at-write .after-write .result)
-    (at-write .after-write .ensures ∙ ap (afterWrite (at-write .before .write-all .result)) (at-next .after-feed .ensures)) (c .match .keys2)
+    stopped (at-start .args .chunk .now) (at-said .write-all .result) _ _ (at-write .after-write .result)
+    (at-write .after-write .ensures ∙ ap (afterWrite (at-said .write-all .result)) (at-next .after-feed .ensures)) (c .match .keys2)
     (λ still.
     limit-stopped (omega (arith, at-start .pre, at-loop .loop .inv .1)) (at-feed .before .before .before .before .before .before .before .before .loop-test .taken) still (at-loop .loop .inv .3) (at-feed .feed .ensures))
 
 loop-less : tie.Need-loop-less Inv-loop μ-loop
 loop-less c =
     let at-write = c .before .before in
-    let at-next = at-write .before .before .before in
-    let at-feed = at-next .before .before .before .before .before .before .before .before .before .before .before .before .before in
+    let at-next = at-write .before in
+    let at-said = at-next .before in
+    let at-feed = at-said .before .before .before .before .before .before .before .before .before .before .before .before .before .before in
     let taken =
-    went-on (at-write .before .write-all .result) (at-feed .before .before .before .before .before .before .before .before .before .loop .from) (at-feed .feed .result .to) (at-write .after-write .result)
-    (at-write .after-write .ensures ∙ ap (afterWrite (at-write .before .write-all .result)) (at-next .after-feed .ensures)) (c .enum-told .given .1)
+    went-on (at-said .write-all .result) (at-feed .before .before .before .before .before .before .before .before .before .loop .from) (at-feed .feed .result .to) (at-write .after-write .result)
+    (at-write .after-write .ensures ∙ ap (afterWrite (at-said .write-all .result)) (at-next .after-feed .ensures)) (c .enum-told .given .1)
     in
     omega (arith, taken, at-feed .before .before .before .before .before .before .before .before .loop-test .taken)
 
@@ -156,10 +158,10 @@ feed-chunk-spec =
     μ-loop
     loop-holds
     feed-requires
-    after-feed-requires
     slice-reshare-prefix-write-all
     slice-aggregate-write-all
     write-all-requires
+    after-feed-requires
     after-write-requires
     enum-told
     same-length
