@@ -1,3 +1,4 @@
 pub mod Scanning
 pub mod Digits
 pub mod Reading
+pub mod Landing

@@ -1,7 +1,7 @@
 -- The fields of a line: they are parted by one tab, byte 9. Bytes are natural numbers.
 -- Assumes nothing.
-use Prim.Native.Nat.{ℕ, suc, _+_}
-use mathlib.Core.Bool.{cond}
+use Prim.Native.Nat.{ℕ, suc, _+_, _-_, _≤_}
+use mathlib.Core.Bool.{Bool, true, false, cond}
 use mathlib.Core.List.{List, [], _∷_}
 use lib.Dec.{eqb, ltb}
 use lib.ListN.{length, take, drop}
@@ -25,24 +25,32 @@ abbrev pub until : ℕ → List ℕ → ℕ
 until b [] = 0
 until b (x ∷ xs) = cond (eqb x b) 0 (suc (until b xs))
 
--- how many tabs there are
-abbrev pub tabs : List ℕ → ℕ
-tabs [] = 0
-tabs (x ∷ xs) = cond (eqb x 9) (suc (tabs xs)) (tabs xs)
-
--- the first field
-unfoldable pub field : List ℕ → List ℕ
-field l = take (until 9 l) l
-
--- what stands behind the first tab
-unfoldable pub rest : List ℕ → List ℕ
-rest l = drop (suc (until 9 l)) l
-
--- the fields after the first
-unfoldable pub others : List ℕ → List (List ℕ)
-others l = cond (eqb (tabs l) 0) [] (parts 9 (rest l))
-
--- where the field that starts at a position stands: up to the next tab or the line's end. One place beyond the line
--- there is none
+-- the field that starts at a position: up to the next tab or the line's end. Beyond the line there is none
 unfoldable pub fieldAt : List ℕ → ℕ → Field
 fieldAt l at = cond (ltb (length l) at) End (Text at (at + until 9 (drop at l)))
+
+-- the position after it: one beyond its end, so one beyond the line after the last. Where there is no field it stays
+unfoldable pub afterAt : List ℕ → ℕ → ℕ
+afterAt l at = cond (ltb (length l) at) at (at + until 9 (drop at l) + 1)
+
+-- all fields from a position on
+unfoldable pub fieldsFrom : List ℕ → ℕ → List (List ℕ)
+fieldsFrom l at = cond (ltb (length l) at) [] (parts 9 (drop at l))
+
+-- ---- of a field
+
+-- its bytes
+abbrev pub bytesOf : List ℕ → Field → List ℕ
+bytesOf l (Text a e) = take (e - a) (drop a l)
+bytesOf l End = []
+
+-- it stands in the line; only inner functions use it
+abbrev pub Within : List ℕ → Field → Type 0
+Within l (Text a e) = (a ≤ e) × (e ≤ length l)
+Within l End = Unit {0}
+
+-- it is there, and the one after it is not; only inner functions use it
+abbrev pub isLast : Field → Field → Bool
+isLast (Text a e) (Text b f) = false
+isLast (Text a e) End = true
+isLast End more = false

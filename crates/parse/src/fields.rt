@@ -2,9 +2,9 @@
 ghost use mathlib.Core.Path.{_≡_};
 ghost use Prim.Native.Nat.{_+_, _≤_};
 ghost use lib.ListN.{length, drop};
-ghost use Rattle.parse.specs.Fields.{until, tabs, rest, fieldAt};
+ghost use Rattle.parse.specs.Fields.{until, fieldAt, afterAt, bytesOf, Within, isLast};
 
-// A line's bytes, and a position in it: the start of a field.
+// A line's bytes, and a position in it: the start of a field, or one beyond the line, after the last field.
 pub struct Fields<'a> {
     pub line: &'a [u8],
     pub at: usize,
@@ -14,6 +14,18 @@ pub struct Fields<'a> {
 pub enum Field {
     Text(usize, usize),
     End,
+}
+
+// What the fields of a line yield: one field, and the fields after it.
+pub struct Yielded<'a> {
+    pub field: Field,
+    pub rest: Fields<'a>,
+}
+
+// The same without the line: one field, and the position after it.
+pub struct Step {
+    pub field: Field,
+    pub after: usize,
 }
 
 // Where the next byte b stands from a place on, or the end of the bytes where there is none.
@@ -31,14 +43,21 @@ pub fn find_byte(bytes: &[u8], from: usize, b: u8) -> usize
     i
 }
 
-// The field that starts at a position. A position one beyond the line's length is after the last field.
-pub fn field_at(line: &[u8], at: usize) -> Field
-    ensures { λ r. ⌜ r ≡ fieldAt (now (line .entry)) at ⌝ }
+// The field that starts at a position, and the position after it.
+fn step_at(line: &[u8], at: usize) -> Step
+    ensures { λ r. ⌜ (r .field ≡ fieldAt (now (line .entry)) at) × (r .after ≡ afterAt (now (line .entry)) at) ⌝ }
 {
     if line.len() < at {
-        return Field::End;
+        return Step {
+            field: Field::End,
+            after: at,
+        };
     }
-    Field::Text(at, find_byte(line, at, 9))
+    let end = find_byte(line, at, 9);
+    Step {
+        field: Field::Text(at, end),
+        after: end + 1,
+    }
 }
 
 // The fields of a line from a position on.
@@ -48,61 +67,60 @@ pub fn fields_from<'a>(line: &'a [u8], at: usize) -> Fields<'a>
     Fields { line, at }
 }
 
-// The next of the fields.
-pub fn next<'a>(fields: Fields<'a>) -> Field
-    ensures { λ r. ⌜ r ≡ fieldAt (now (fields .entry .line)) (fields .entry .at) ⌝ }
+// The next of the fields, and those after it.
+pub fn next<'a>(fields: Fields<'a>) -> Yielded<'a>
+    ensures { λ r. ⌜ (r .field ≡ fieldAt (now (fields .entry .line)) (fields .entry .at))
+        × ((r .rest .line ≡ fields .entry .line) × (r .rest .at ≡ afterAt (now (fields .entry .line)) (fields .entry .at))) ⌝ }
 {
-    field_at(fields.line, fields.at)
-}
-
-// The same line, at another position.
-pub fn moved<'a>(fields: Fields<'a>, at: usize) -> Fields<'a>
-    ensures { λ r. ⌜ (r .line ≡ fields .entry .line) × (r .at ≡ at) ⌝ }
-{
-    Fields {
-        line: fields.line,
-        at,
+    let step = step_at(fields.line, fields.at);
+    Yielded {
+        field: step.field,
+        rest: Fields {
+            line: fields.line,
+            at: step.after,
+        },
     }
 }
 
 // The next field, for callers that hold a line and a position and no struct.
-pub fn next_field(line: &[u8], at: usize) -> Field
-    ensures { λ r. ⌜ r ≡ fieldAt (now (line .entry)) at ⌝ }
+pub fn next_field(line: &[u8], at: usize) -> Step
+    ensures { λ r. ⌜ (r .field ≡ fieldAt (now (line .entry)) at) × (r .after ≡ afterAt (now (line .entry)) at) ⌝ }
 {
-    next(fields_from(line, at))
+    let yielded = next(fields_from(line, at));
+    Step {
+        field: yielded.field,
+        after: yielded.rest.at,
+    }
 }
 
-// How many tabs the line has: one less than it has fields.
-pub(crate) fn count_tabs(line: &[u8]) -> usize
-    ensures { λ r. ⌜ r ≡ tabs (now (line .entry)) ⌝ }
+// Whether a field is the last of its line: it is there, and after it there is none.
+pub(crate) fn is_last(line: &[u8], step: Step) -> bool
+    ensures { λ r. ⌜ r ≡ isLast (step .field) (fieldAt (now (line .entry)) (step .after)) ⌝ }
 {
-    let mut n = 0;
-    let mut i = 0;
-    while i < line.len() {
-        if line[i] == 9 {
-            n += 1;
+    let field = step.field;
+    let following = next_field(line, step.after);
+    let more = following.field;
+    match field {
+        Field::Text(_, _) => match more {
+            Field::Text(_, _) => false,
+            Field::End => true,
+        },
+        Field::End => false,
+    }
+}
+
+// The bytes of a field; none after the last.
+pub(crate) fn text_of<'a>(line: &'a [u8], step: Step) -> &'a [u8]
+    requires { ⌜ Within (now line) (step .field) ⌝ }
+    ensures { λ r. ⌜ now r ≡ bytesOf (now (line .entry)) (step .field) ⌝ }
+{
+    let field = step.field;
+    match field {
+        Field::Text(start, end) => {
+            return &line[start..end];
         }
-        i += 1;
+        Field::End => {
+            return &line[0..0];
+        }
     }
-    n
-}
-
-// Where the field that starts at a position ends: at the next tab, or with the line.
-pub(crate) fn field_end(line: &[u8], at: usize) -> usize
-    requires { ⌜ at ≤ length (now line) ⌝ }
-    ensures { λ r. ⌜ (r ≤ length (now (line .entry))) × (r ≡ at + until 9 (drop at (now (line .entry)))) ⌝ }
-{
-    match next_field(line, at) {
-        Field::Text(_, end) => end,
-        Field::End => line.len(),
-    }
-}
-
-// Where the field after it starts, if there is one, and else the line's end.
-pub(crate) fn after_field(line: &[u8], at: usize) -> usize
-    requires { ⌜ at ≤ length (now line) ⌝ }
-    ensures { λ r. ⌜ (r ≤ length (now (line .entry))) × (drop r (now (line .entry)) ≡ rest (drop at (now (line .entry)))) ⌝ }
-{
-    let end = field_end(line, at);
-    if end < line.len() { end + 1 } else { end }
 }

@@ -1,16 +1,15 @@
 // A session line: its first field says what it asks, the others are the numbers for it.
-use crate::fields::after_field;
-use crate::fields::count_tabs;
-use crate::fields::field_end;
+use crate::fields::Step;
+use crate::fields::is_last;
+use crate::fields::next_field;
+use crate::fields::text_of;
 use crate::numbers::Number;
 use crate::numbers::Signed;
 use crate::numbers::signed_number;
 use crate::numbers::unsigned_number;
 use window::refusal::Refusal;
 ghost use mathlib.Core.Path.{_≡_};
-ghost use Prim.Native.Nat.{_≤_};
-ghost use lib.ListN.{length, drop};
-ghost use Rattle.parse.specs.Fields.{tabs, field, others};
+ghost use Rattle.parse.specs.Fields.{bytesOf, Within, fieldsFrom};
 ghost use Rattle.parse.specs.Numbers.{unsignedOf, signedOf};
 ghost use Rattle.parse.specs.Lines.{nameOf, parsed, registerLine, withdrawLine, readingLine, fourNumbers, oneNumber, oneSigned};
 
@@ -42,15 +41,14 @@ pub enum Name {
     Unknown,
 }
 
-// What the first field of the line names.
-fn name_of(line: &[u8]) -> Name
-    ensures { λ r. ⌜ r ≡ nameOf (field (now (line .entry))) ⌝ }
+// What the bytes of a first field name.
+fn name_of(first: &[u8]) -> Name
+    ensures { λ r. ⌜ r ≡ nameOf (now (first .entry)) ⌝ }
 {
-    let end = field_end(line, 0);
-    if end != 1 {
+    if first.len() != 1 {
         return Name::Unknown;
     }
-    let b = line[0];
+    let b = first[0];
     if b == 82 {
         return Name::Register;
     }
@@ -63,22 +61,12 @@ fn name_of(line: &[u8]) -> Name
     Name::Unknown
 }
 
-// The field that starts at a position, as an unsigned 32-bit number.
-fn number_at(line: &[u8], at: usize) -> Number
-    requires { ⌜ at ≤ length (now line) ⌝ }
-    ensures { λ r. ⌜ r ≡ unsignedOf (field (drop at (now (line .entry)))) ⌝ }
+// A field as an unsigned 32-bit number.
+fn number_of(line: &[u8], step: Step) -> Number
+    requires { ⌜ Within (now line) (step .field) ⌝ }
+    ensures { λ r. ⌜ r ≡ unsignedOf (bytesOf (now (line .entry)) (step .field)) ⌝ }
 {
-    let end = field_end(line, at);
-    unsigned_number(&line[at..end], 4294967295)
-}
-
-// The same, as a signed 32-bit number.
-fn signed_at(line: &[u8], at: usize) -> Signed
-    requires { ⌜ at ≤ length (now line) ⌝ }
-    ensures { λ r. ⌜ r ≡ signedOf (field (drop at (now (line .entry)))) ⌝ }
-{
-    let end = field_end(line, at);
-    signed_number(&line[at..end])
+    unsigned_number(text_of(line, step), 4294967295)
 }
 
 // A registration by its four numbers, judged from the left.
@@ -129,47 +117,47 @@ fn one_signed(a: Signed) -> Line
     }
 }
 
-// R number kind range slide.
-fn register_line(line: &[u8], count: usize) -> Line
-    requires { ⌜ count ≡ tabs (now line) ⌝ }
-    ensures { λ r. ⌜ r ≡ registerLine (others (now (line .entry))) ⌝ }
+// R number kind range slide: the fields from a position on are the four numbers.
+fn register_line(line: &[u8], at: usize) -> Line
+    ensures { λ r. ⌜ r ≡ registerLine (fieldsFrom (now (line .entry)) at) ⌝ }
 {
-    if count != 4 {
-        return Line::Refused(Refusal::UnknownLine);
+    let first = next_field(line, at);
+    let second = next_field(line, first.after);
+    let third = next_field(line, second.after);
+    let fourth = next_field(line, third.after);
+    if is_last(line, fourth) {
+        let number = number_of(line, first);
+        let kind = number_of(line, second);
+        let range = number_of(line, third);
+        let slide = number_of(line, fourth);
+        four_numbers(number, kind, range, slide)
+    } else {
+        Line::Refused(Refusal::UnknownLine)
     }
-    let a = after_field(line, 0);
-    let b = after_field(line, a);
-    let c = after_field(line, b);
-    let d = after_field(line, c);
-    let number = number_at(line, a);
-    let kind = number_at(line, b);
-    let range = number_at(line, c);
-    let slide = number_at(line, d);
-    four_numbers(number, kind, range, slide)
 }
 
 // D number.
-fn withdraw_line(line: &[u8], count: usize) -> Line
-    requires { ⌜ count ≡ tabs (now line) ⌝ }
-    ensures { λ r. ⌜ r ≡ withdrawLine (others (now (line .entry))) ⌝ }
+fn withdraw_line(line: &[u8], at: usize) -> Line
+    ensures { λ r. ⌜ r ≡ withdrawLine (fieldsFrom (now (line .entry)) at) ⌝ }
 {
-    if count != 1 {
-        return Line::Refused(Refusal::UnknownLine);
+    let only = next_field(line, at);
+    if is_last(line, only) {
+        one_number(number_of(line, only))
+    } else {
+        Line::Refused(Refusal::UnknownLine)
     }
-    let a = after_field(line, 0);
-    one_number(number_at(line, a))
 }
 
 // V value.
-fn reading_line(line: &[u8], count: usize) -> Line
-    requires { ⌜ count ≡ tabs (now line) ⌝ }
-    ensures { λ r. ⌜ r ≡ readingLine (others (now (line .entry))) ⌝ }
+fn reading_line(line: &[u8], at: usize) -> Line
+    ensures { λ r. ⌜ r ≡ readingLine (fieldsFrom (now (line .entry)) at) ⌝ }
 {
-    if count != 1 {
-        return Line::Refused(Refusal::UnknownLine);
+    let only = next_field(line, at);
+    if is_last(line, only) {
+        one_signed(signed_number(text_of(line, only)))
+    } else {
+        Line::Refused(Refusal::UnknownLine)
     }
-    let a = after_field(line, 0);
-    one_signed(signed_at(line, a))
 }
 
 // What a line asks, without the byte that ends it. Any bytes may stand in it.
@@ -179,11 +167,11 @@ pub fn parse_line(line: &[u8]) -> Line
     if LINE_LENGTH < line.len() {
         return Line::Refused(Refusal::LineTooLong);
     }
-    let count = count_tabs(line);
-    match name_of(line) {
-        Name::Register => register_line(line, count),
-        Name::Withdraw => withdraw_line(line, count),
-        Name::Reading => reading_line(line, count),
+    let first = next_field(line, 0);
+    match name_of(text_of(line, first)) {
+        Name::Register => register_line(line, first.after),
+        Name::Withdraw => withdraw_line(line, first.after),
+        Name::Reading => reading_line(line, first.after),
         Name::Unknown => Line::Refused(Refusal::UnknownLine),
     }
 }

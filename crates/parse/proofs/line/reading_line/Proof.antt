@@ -1,27 +1,43 @@
--- `reading_line` meets its contract: one field after the first, as a signed number. Assumes nothing.
-use mathlib.Core.Path.{sym, _∙_}
+-- `reading_line` meets its contract: one field, the last, as a signed number. Assumes nothing.
+use mathlib.Core.Path.{sym, _∙_, ap}
 use borrow.Author.Needs.{needs}
-use Rattle.parse.proofs.Reading.{not-one, reading-is}
+use Rattle.parse.specs.Numbers.{signedOf}
+use Rattle.parse.proofs.Scanning.{field-within}
+use Rattle.parse.proofs.Reading.{reading-is, not-one}
 use Rattle.parse.proofs.line.reading_line.Statement.{statement}
 use Rattle.parse.proofs.line.reading_line.Tie as tie
 
-returns : tie.Need-returns
-returns c = (not-one _ (λ h. c .if1 .taken (c .before .before .pre ∙ h))) .1
+next-field-requires : tie.Need-next-field-requires
+next-field-requires c κs = search needs
 
-after-field-requires : tie.Need-after-field-requires
-after-field-requires c κs = search needs
+is-last-requires : tie.Need-is-last-requires
+is-last-requires c κs = search needs
 
-signed-at-requires : tie.Need-signed-at-requires
-signed-at-requires c κs = search needs
+text-of-requires : tie.Need-text-of-requires
+text-of-requires c κs = field-within _ _ _ (c .before .before .next-field .ensures .0)
+
+signed-number-requires : tie.Need-signed-number-requires
+signed-number-requires c κs = search needs
 
 one-signed-requires : tie.Need-one-signed-requires
 one-signed-requires c κs = search needs
 
+returns : tie.Need-returns
+returns c =
+    c .one-signed .ensures
+    ∙ reading-is _ _ _ _ (c .before .before .before .before .before .next-field .ensures) _ (sym (c .before .before .before .before .is-last .ensures) ∙ c .before .before .before .if1 .taken) (c .before .signed-number .ensures ∙ ap signedOf (c .before .before .text-of .ensures))
+
 returns-2 : tie.Need-returns-2
-returns-2 c =
-    c .one-signed .ensures ∙ reading-is (c .before .before .before .before .before .args .line .now) _ _ (sym (c .before .before .before .before .before .pre) ∙ c .before .before .before .if1 .left) (c .before .before .after-field .ensures .1) (c .before .signed-at .ensures)
+returns-2 c = not-one _ _ _ _ (c .before .before .next-field .ensures) (sym (c .before .is-last .ensures) ∙ c .if1 .left) .1
 
 pub reading-line-spec : {M : Type 1} → statement M
 reading-line-spec =
     tie.close
-    (tie.spec returns after-field-requires signed-at-requires one-signed-requires returns-2)
+    (tie.spec
+    next-field-requires
+    is-last-requires
+    text-of-requires
+    signed-number-requires
+    one-signed-requires
+    returns
+    returns-2)

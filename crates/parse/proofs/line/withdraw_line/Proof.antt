@@ -1,26 +1,38 @@
--- `withdraw_line` meets its contract: one field after the first. Assumes nothing.
+-- `withdraw_line` meets its contract: one field, the last, as a number. Assumes nothing.
 use mathlib.Core.Path.{sym, _∙_}
 use borrow.Author.Needs.{needs}
-use Rattle.parse.proofs.Reading.{not-one, withdraw-is}
+use Rattle.parse.proofs.Scanning.{field-within}
+use Rattle.parse.proofs.Reading.{withdraw-is, not-one}
 use Rattle.parse.proofs.line.withdraw_line.Statement.{statement}
 use Rattle.parse.proofs.line.withdraw_line.Tie as tie
 
-returns : tie.Need-returns
-returns c = (not-one _ (λ h. c .if1 .taken (c .before .before .pre ∙ h))) .0
+next-field-requires : tie.Need-next-field-requires
+next-field-requires c κs = search needs
 
-after-field-requires : tie.Need-after-field-requires
-after-field-requires c κs = search needs
+is-last-requires : tie.Need-is-last-requires
+is-last-requires c κs = search needs
 
-number-at-requires : tie.Need-number-at-requires
-number-at-requires c κs = search needs
+number-of-requires : tie.Need-number-of-requires
+number-of-requires c κs = field-within _ _ _ (c .before .before .next-field .ensures .0)
 
 one-number-requires : tie.Need-one-number-requires
 one-number-requires c κs = search needs
 
+returns : tie.Need-returns
+returns c =
+    c .one-number .ensures
+    ∙ withdraw-is _ _ _ _ (c .before .before .before .before .next-field .ensures) _ (sym (c .before .before .before .is-last .ensures) ∙ c .before .before .if1 .taken) (c .before .number-of .ensures)
+
 returns-2 : tie.Need-returns-2
-returns-2 c =
-    c .one-number .ensures ∙ withdraw-is (c .before .before .before .before .before .args .line .now) _ _ (sym (c .before .before .before .before .before .pre) ∙ c .before .before .before .if1 .left) (c .before .before .after-field .ensures .1) (c .before .number-at .ensures)
+returns-2 c = not-one _ _ _ _ (c .before .before .next-field .ensures) (sym (c .before .is-last .ensures) ∙ c .if1 .left) .0
 
 pub withdraw-line-spec : {M : Type 1} → statement M
 withdraw-line-spec =
-    tie.close (tie.spec returns after-field-requires number-at-requires one-number-requires returns-2)
+    tie.close
+    (tie.spec
+    next-field-requires
+    is-last-requires
+    number-of-requires
+    one-number-requires
+    returns
+    returns-2)
