@@ -77,8 +77,8 @@ fn count(case: &Case, with_last: bool) {
     println!("{}", engine.totals().readings);
 }
 
-// The nanoseconds of the last reading of a round, and of the mean of all its readings. Those before the last are timed by
-// the processor time of the process; a look at that takes too long beside a single reading.
+// The nanoseconds of the last reading of a round, and of the mean of all its readings. Those before the last are timed
+// by the processor time of the process; a look at that takes too long beside a single reading.
 fn time(case: &Case, engine: &mut Engine) -> [f64; 2] {
     engine.start();
     (case.open)(engine);

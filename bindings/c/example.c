@@ -1,5 +1,6 @@
-/* The sample session of document 01 ("One session whole") through the five calls, on fixed arrays. It prints what the session program prints: a line for each answer (A, n, query number, kind,
- * count, value), for each refusal (E, line of the session, number), and at the end the totals (T, n, P, M, N), fields parted by tabs. */
+/* The sample session of document 01 ("One session whole") through the five calls, on fixed arrays. It prints what the
+ * session program prints: a line for each answer (A, n, query number, kind, count, value), for each refusal (E, line of
+ * the session, number), and at the end the totals (T, n, P, M, N), fields parted by tabs. */
 #include <inttypes.h>
 #include <stdio.h>
 

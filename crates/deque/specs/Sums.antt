@@ -2,8 +2,9 @@
 -- partials at the places before it, since place 0: a lap of the ring. So the sum from an entry to the newest is a
 -- difference, and no number grows with the feed.
 --
--- An example, with 4 places in place of 4,096. Six partials of the sums 5, 2, 7, 1, 4, 3 were pushed, the first at place
--- 0, so that the fifth began the second lap, and the first two were evicted: the ring's head is place 2, its length 4.
+-- An example, with 4 places in place of 4,096. Six partials of the sums 5, 2, 7, 1, 4, 3 were pushed, the first at
+-- place 0, so that the fifth began the second lap, and the first two were evicted: the ring's head is place 2, its
+-- length 4.
 --     place                 0    1    2    3
 --     partial's sum         4    3    7    1
 --     the table holds       0    4    7   14      before place 1: 4; before place 3, in the lap before: 5 + 2 + 7

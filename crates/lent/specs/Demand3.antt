@@ -14,8 +14,8 @@ use Rattle.lent.specs.Lent.{Lent, lentLong, lentMachine}
 use Rattle.lent.specs.Contracts.{OnLent, ReadingOnLent}
 
 -- the call c on m came to o and left m′: what the contracts of the five calls say of it. For every list of calls whose
--- numbers are of the types that the functions take there is a run, as in `engine`: each of the five functions returns on
--- every input, and what it returns meets its contract
+-- numbers are of the types that the functions take there is a run, as in `engine`: each of the five functions returns
+-- on every input, and what it returns meets its contract
 abbrev pub Performs : Call → Lent → Outcome → Lent → Type 0
 Performs start m o m′ = OnLent StartEnsures m o m′
 Performs (register number kind range slide) m o m′ = OnLent (Ensures (register number kind range slide)) m o m′
