@@ -2,7 +2,8 @@
 //! `let got = libc::read(STDIN_FILENO, chunk);`, and the next statement hands `got` to `after_read` as its first
 //! argument. Every write to standard output is `let said = io::write_all(STDOUT_FILENO, &out[..at]);`, and the next
 //! statement hands `said` to `after_write` so; `at` is what `feed` or `finish` returned just before, for the same
-//! `out`. Nothing else is read or written, but messages on standard error.
+//! `out`. What the two come to is what the function returns, or ends a loop by `VERDICT`. Nothing else is read or
+//! written, but messages on standard error.
 
 use crate::shape::{arguments, arms, statements};
 use crate::source::{Finding, Function, Sources};
@@ -18,6 +19,10 @@ const MESSAGE_IN: &str = "pchelodar message";
 
 /// What each answer is handed to, in the next statement.
 const HEARD: [(&str, &str, &str); 2] = [(READ, "got", "after_read"), (WRITE, "said", "after_write")];
+
+/// What follows where the function goes on: what was returned is taken apart, and all but `Onward` ends it as it is.
+const APART: [&str; 2] = ["held = next.session;", "let progress = next.progress;"];
+const VERDICT: &str = "match progress { Progress::Onward => {} _ => return Running { session: held, progress, }, }";
 
 /// The functions whose length is written: `feed` returns it in the field `at`, `finish` as it is.
 const FEED: &str = "session :: stream :: feed (";
@@ -97,6 +102,10 @@ impl Heard<'_> {
                     let what = format!("after `{statement}` the next statement is to hand `{name}` to `{taker}`, once");
                     found.push(self.function.finding(line, what));
                 }
+                if !handed_on(&parts[at + 1..]) {
+                    let what = format!("what `{taker}` comes to is to be returned, or to go on by `{VERDICT}`");
+                    found.push(self.function.finding(line, what));
+                }
                 if statement == WRITE && !self.length_returned(&parts[..at]) {
                     let what = "`at` is to be what `feed` or `finish` returned just before, for `out`";
                     found.push(self.function.finding(line, what));
@@ -132,6 +141,17 @@ impl Heard<'_> {
             && lengths == 1
             && after.iter().any(|part| begins(part, &length))
     }
+}
+
+/// Whether what the first of these statements comes to is returned, or decides by `VERDICT`.
+fn handed_on(parts: &[&[Tree]]) -> bool {
+    let Some((taking, others)) = parts.split_first() else { return false };
+    if others.is_empty() {
+        return begins(taking, "after_write (") && !taking[taking.len() - 1].is_sign(";");
+    }
+    let apart = others.iter().take_while(|part| APART.iter().any(|text| is_written(part, text))).count();
+    let named = if apart == 0 { "let progress =" } else { "let next =" };
+    begins(taking, named) && others.get(apart).is_some_and(|part| is_written(part, VERDICT))
 }
 
 fn mentions(part: &[Tree], name: &str) -> usize {
