@@ -13,7 +13,7 @@ use lib.IntN.{ℤ, pos, negℤ, _-ℤ_, +ℤ-idl}
 use mir.Syntax.{w32, w64}
 use mir.Val.{SFits, toZ, ofZ}
 use mir.Facts.{toZ-ofZ, toZ-pos, sfits-widen}
-use Rattle.parse.specs.Numbers.{digit, digits, written, valueFrom, numberOf, NumberBelow, signedOf, positive, negative}
+use Rattle.parse.specs.Numbers.{digit, digits, written, digitsValue, numberOf, NumberBelow, signedOf, positive, negative}
 use Rattle.parse.specs.declared.numbers.Number.{Number}
 use Rattle.parse.specs.declared.numbers.Signed.{Signed}
 use Rattle.parse.proofs.Scanning.{here}
@@ -33,23 +33,23 @@ digits-end s i a l h = sym (h ∙ ap digits (drop-of-length-le s l))
 -- ---- the value, capped
 
 -- that a number is capped on the way does not show at the end
-cap-once : (cap n : ℕ) (s : List ℕ) → min cap (valueFrom n s) ≡ min cap (valueFrom (min cap n) s)
+cap-once : (cap n : ℕ) (s : List ℕ) → min cap (digitsValue n s) ≡ min cap (digitsValue (min cap n) s)
 cap-once cap n [] = omega arith
 cap-once cap n (b ∷ bs) =
     cap-once cap (n * 10 + (b - 48)) bs
-    ∙ ap (λ (k : ℕ). min cap (valueFrom k bs)) (omega arith)
+    ∙ ap (λ (k : ℕ). min cap (digitsValue k bs)) (omega arith)
     ∙ sym (cap-once cap (min cap n * 10 + (b - 48)) bs)
 
 -- the digit at i is taken in
-pub value-more : (s : List ℕ) (i : ℕ) → i < length s → (cap n n′ a : ℕ) → a ≡ min cap (valueFrom n (drop i s)) → n′ ≡ min cap (n * 10 + (getD s i 0 - 48)) → a ≡ min cap (valueFrom n′ (drop (i + 1) s))
+pub value-more : (s : List ℕ) (i : ℕ) → i < length s → (cap n n′ a : ℕ) → a ≡ min cap (digitsValue n (drop i s)) → n′ ≡ min cap (n * 10 + (getD s i 0 - 48)) → a ≡ min cap (digitsValue n′ (drop (i + 1) s))
 value-more s i l cap n n′ a h e =
-    h ∙ ap (λ (t : List ℕ). min cap (valueFrom n t)) (here s i l)
+    h ∙ ap (λ (t : List ℕ). min cap (digitsValue n t)) (here s i l)
     ∙ cap-once cap (n * 10 + (getD s i 0 - 48)) (drop (i + 1) s)
-    ∙ ap (λ (k : ℕ). min cap (valueFrom k (drop (i + 1) s))) (sym e)
+    ∙ ap (λ (k : ℕ). min cap (digitsValue k (drop (i + 1) s))) (sym e)
 
 -- all are taken in
-pub value-end : (s : List ℕ) (i : ℕ) → length s ≤ i → (cap n a : ℕ) → n ≤ cap → a ≡ min cap (valueFrom n (drop i s)) → n ≡ a
-value-end s i l cap n a k h = omega (arith, h, ap (λ (t : List ℕ). min cap (valueFrom n t)) (drop-of-length-le s l))
+pub value-end : (s : List ℕ) (i : ℕ) → length s ≤ i → (cap n a : ℕ) → n ≤ cap → a ≡ min cap (digitsValue n (drop i s)) → n ≡ a
+value-end s i l cap n a k h = omega (arith, h, ap (λ (t : List ℕ). min cap (digitsValue n t)) (drop-of-length-le s l))
 
 -- ---- a number of 32 bits
 
@@ -109,29 +109,29 @@ module _ (s : List ℕ) (some : length s ≡ 0 → ⊥) (more : length s ≡ 1 �
 
 module _ (most : ℕ) (s : List ℕ) where
   abbrev fitting : Bool → Bool → Number
-  fitting p q = cond p (cond q (Number.Is (valueFrom 0 s)) Number.Wide) Number.Malformed
+  fitting p q = cond p (cond q (Number.Is (digitsValue 0 s)) Number.Wide) Number.Malformed
 
   pub number-malformed : written s ≡ false → Number.Malformed ≡ numberOf most s
   unfolding numberOf
-  number-malformed e = sym (ap (λ p. fitting p (leb (valueFrom 0 s) most)) e)
+  number-malformed e = sym (ap (λ p. fitting p (leb (digitsValue 0 s) most)) e)
 
-  pub number-is : (n : ℕ) → written s ≡ true → n ≡ min (most + 1) (valueFrom 0 s) → n ≤ most → Number.Is n ≡ numberOf most s
+  pub number-is : (n : ℕ) → written s ≡ true → n ≡ min (most + 1) (digitsValue 0 s) → n ≤ most → Number.Is n ≡ numberOf most s
   unfolding numberOf
   number-is n e h l =
-      ap Number.Is (omega arith) ∙ sym (ap (λ p. fitting p (leb (valueFrom 0 s) most)) e ∙ ap (fitting true) (le-leb (valueFrom 0 s) most (omega arith)))
+      ap Number.Is (omega arith) ∙ sym (ap (λ p. fitting p (leb (digitsValue 0 s) most)) e ∙ ap (fitting true) (le-leb (digitsValue 0 s) most (omega arith)))
 
-  pub number-wide : (n : ℕ) → written s ≡ true → n ≡ min (most + 1) (valueFrom 0 s) → most < n → Number.Wide ≡ numberOf most s
+  pub number-wide : (n : ℕ) → written s ≡ true → n ≡ min (most + 1) (digitsValue 0 s) → most < n → Number.Wide ≡ numberOf most s
   unfolding numberOf
   number-wide n e h l =
-      sym (ap (λ p. fitting p (leb (valueFrom 0 s) most)) e ∙ ap (fitting true) (lt-leb (valueFrom 0 s) most (omega arith)))
+      sym (ap (λ p. fitting p (leb (digitsValue 0 s) most)) e ∙ ap (fitting true) (lt-leb (digitsValue 0 s) most (omega arith)))
 
   -- the number, if there is one, is at most `most`
   pub number-below : NumberBelow most (numberOf most s)
   unfolding numberOf
-  number-below = go (written s) (leb (valueFrom 0 s) most) refl
+  number-below = go (written s) (leb (digitsValue 0 s) most) refl
     where
-      go : (p q : Bool) → leb (valueFrom 0 s) most ≡ q → NumberBelow most (fitting p q)
-      go true true e = leb-true (valueFrom 0 s) most e
+      go : (p q : Bool) → leb (digitsValue 0 s) most ≡ q → NumberBelow most (fitting p q)
+      go true true e = leb-true (digitsValue 0 s) most e
       go true false e = tt
       go false q e = tt
 

@@ -10,7 +10,7 @@ use lib.ListN.{length, getD, take, drop, drop-of-length-le, length-drop}
 use lib.Seq.{drop-cons, drop-drop}
 use lib.Dec.{eqb, ltb}
 use borrow.Author.Tests.{lt-ltb, le-ltb, ltb-true, ltb-false, eq-eqb, ne-eqb}
-use Rattle.parse.specs.Fields.{onto, parts, until, fieldAt, afterAt, fieldsFrom, bytesOf, Within, isLast}
+use Rattle.parse.specs.Fields.{onto, parts, until, fieldAt, afterAt, fieldsFrom, bytesOf, InLine, isLast}
 use Rattle.parse.specs.declared.fields.Field.{Field}
 use Rattle.parse.specs.declared.fields.Field.the-variants.{Text, End}
 
@@ -65,11 +65,11 @@ module _ (s : List ℕ) (at : ℕ) where
   beyond-is l = (sym (ap field-if (lt-ltb (length s) at l)), sym (ap after-if (lt-ltb (length s) at l)))
 
   -- it stands in the line
-  pub field-within : (f : Field) → f ≡ fieldAt s at → Within s f
+  pub field-within : (f : Field) → f ≡ fieldAt s at → InLine s f
   unfolding fieldAt
-  field-within f h = subst (Within s) (sym h) (go (ltb (length s) at) refl)
+  field-within f h = subst (InLine s) (sym h) (go (ltb (length s) at) refl)
     where
-      go : (t : Bool) → ltb (length s) at ≡ t → Within s (field-if t)
+      go : (t : Bool) → ltb (length s) at ≡ t → InLine s (field-if t)
       go true e = tt
       go false e =
           let l : at ≤ length s = ltb-false (length s) at e in

@@ -45,9 +45,9 @@ bytesOf l (Text a e) = take (e - a) (drop a l)
 bytesOf l End = []
 
 -- it stands in the line; only inner functions use it
-abbrev pub Within : List ℕ → Field → Type 0
-Within l (Text a e) = (a ≤ e) × (e ≤ length l)
-Within l End = Unit {0}
+abbrev pub InLine : List ℕ → Field → Type 0
+InLine l (Text a e) = (a ≤ e) × (e ≤ length l)
+InLine l End = Unit {0}
 
 -- it is there, and the one after it is not; only inner functions use it
 abbrev pub isLast : Field → Field → Bool

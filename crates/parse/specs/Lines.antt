@@ -27,24 +27,24 @@ nameOf (b ∷ c ∷ more) = Name.Unknown
 
 -- ---- field by field from the left: 14, not a number as written, before 15, a number outside its width
 
-abbrev pub number : Number → (ℕ → Line) → Line
-number Number.Malformed next = Line.Refused NotANumber
-number Number.Wide next = Line.Refused OutsideWidth
-number (Number.Is n) next = next n
+abbrev pub numberThen : Number → (ℕ → Line) → Line
+numberThen Number.Malformed next = Line.Refused NotANumber
+numberThen Number.Wide next = Line.Refused OutsideWidth
+numberThen (Number.Is n) next = next n
 
-abbrev pub signed : Signed → (ℤ → Line) → Line
-signed Signed.Malformed next = Line.Refused NotANumber
-signed Signed.Wide next = Line.Refused OutsideWidth
-signed (Signed.Is z) next = next z
+abbrev pub signedThen : Signed → (ℤ → Line) → Line
+signedThen Signed.Malformed next = Line.Refused NotANumber
+signedThen Signed.Wide next = Line.Refused OutsideWidth
+signedThen (Signed.Is z) next = next z
 
 abbrev pub fourNumbers : Number → Number → Number → Number → Line
-fourNumbers a b c d = number a (λ k. number b (λ kind. number c (λ r. number d (λ s. Line.Register k kind r s))))
+fourNumbers a b c d = numberThen a (λ k. numberThen b (λ kind. numberThen c (λ r. numberThen d (λ s. Line.Register k kind r s))))
 
 abbrev pub oneNumber : Number → Line
-oneNumber a = number a Line.Withdraw
+oneNumber a = numberThen a Line.Withdraw
 
 abbrev pub oneSigned : Signed → Line
-oneSigned a = signed a Line.Reading
+oneSigned a = signedThen a Line.Reading
 
 -- ---- by the number of fields after the first: 13 where it is another
 

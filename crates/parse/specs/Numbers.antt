@@ -25,14 +25,14 @@ written (b ∷ []) = digit b
 written (b ∷ c ∷ bs) = not (eqb b 48) && digits (b ∷ c ∷ bs)
 
 -- the number that these digits make behind those of n
-abbrev pub valueFrom : ℕ → List ℕ → ℕ
-valueFrom n [] = n
-valueFrom n (b ∷ bs) = valueFrom (n * 10 + (b - 48)) bs
+abbrev pub digitsValue : ℕ → List ℕ → ℕ
+digitsValue n [] = n
+digitsValue n (b ∷ bs) = digitsValue (n * 10 + (b - 48)) bs
 
 -- an unsigned number that may be at most `most`
 unfoldable pub numberOf : ℕ → List ℕ → Number
 numberOf most s =
-    cond (written s) (cond (leb (valueFrom 0 s) most) (Number.Is (valueFrom 0 s)) Number.Wide) Number.Malformed
+    cond (written s) (cond (leb (digitsValue 0 s) most) (Number.Is (digitsValue 0 s)) Number.Wide) Number.Malformed
 
 -- an unsigned 32-bit number
 unfoldable pub unsignedOf : List ℕ → Number

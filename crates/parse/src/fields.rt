@@ -2,7 +2,7 @@
 ghost use mathlib.Core.Path.{_≡_};
 ghost use Prim.Native.Nat.{_+_, _≤_};
 ghost use lib.ListN.{length, drop};
-ghost use Rattle.parse.specs.Fields.{until, fieldAt, afterAt, bytesOf, Within, isLast};
+ghost use Rattle.parse.specs.Fields.{until, fieldAt, afterAt, bytesOf, InLine, isLast};
 
 // A line's bytes, and a position in it: the start of a field, or one beyond the line, after the last field.
 pub struct Fields<'a> {
@@ -111,7 +111,7 @@ pub(crate) fn is_last(line: &[u8], step: Step) -> bool
 
 // The bytes of a field; none after the last.
 pub(crate) fn text_of<'a>(line: &'a [u8], step: Step) -> &'a [u8]
-    requires { ⌜ Within (now line) (step .field) ⌝ }
+    requires { ⌜ InLine (now line) (step .field) ⌝ }
     ensures { λ r. ⌜ now r ≡ bytesOf (now (line .entry)) (step .field) ⌝ }
 {
     let field = step.field;

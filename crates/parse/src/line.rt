@@ -9,7 +9,7 @@ use crate::numbers::signed_number;
 use crate::numbers::unsigned_number;
 use window::refusal::Refusal;
 ghost use mathlib.Core.Path.{_≡_};
-ghost use Rattle.parse.specs.Fields.{bytesOf, Within, fieldsFrom};
+ghost use Rattle.parse.specs.Fields.{bytesOf, InLine, fieldsFrom};
 ghost use Rattle.parse.specs.Numbers.{unsignedOf, signedOf};
 ghost use Rattle.parse.specs.Lines.{nameOf, parsed, registerLine, withdrawLine, readingLine, fourNumbers, oneNumber, oneSigned};
 
@@ -63,7 +63,7 @@ fn name_of(first: &[u8]) -> Name
 
 // A field as an unsigned 32-bit number.
 fn number_of(line: &[u8], step: Step) -> Number
-    requires { ⌜ Within (now line) (step .field) ⌝ }
+    requires { ⌜ InLine (now line) (step .field) ⌝ }
     ensures { λ r. ⌜ r ≡ unsignedOf (bytesOf (now (line .entry)) (step .field)) ⌝ }
 {
     unsigned_number(text_of(line, step), 4294967295)

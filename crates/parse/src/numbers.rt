@@ -2,7 +2,7 @@
 ghost use mathlib.Core.Path.{_≡_};
 ghost use Prim.Native.Nat.{_-_, _<_, _≤_, min};
 ghost use lib.IntN.{pos, negℤ};
-ghost use Rattle.parse.specs.Numbers.{digit, digits, written, valueFrom, numberOf, signedOf, positive, negative, NumberBelow};
+ghost use Rattle.parse.specs.Numbers.{digit, digits, written, digitsValue, numberOf, signedOf, positive, negative, NumberBelow};
 
 // What a field is as an unsigned number: no number as written (refusal 14), a number outside its width (15), or a
 // number.
@@ -70,7 +70,7 @@ fn capped(x: u64, cap: u64) -> u64
 // The number that the digits make, or the cap where that is more: so it cannot wrap, however many they are.
 fn value(s: &[u8], cap: u64) -> u64
     requires { ⌜ cap ≤ 4294967296 ⌝ }
-    ensures { λ r. ⌜ r ≡ min cap (valueFrom 0 (now (s .entry))) ⌝ }
+    ensures { λ r. ⌜ r ≡ min cap (digitsValue 0 (now (s .entry))) ⌝ }
 {
     let mut n: u64 = 0;
     let mut i = 0;

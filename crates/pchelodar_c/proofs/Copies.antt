@@ -10,7 +10,7 @@ use lib.Seq.{drop-cons, take-suc, set-at, length-take-le, append-snoc, take-at, 
 use Rattle.window.specs.declared.query.Query.{Query}
 use Rattle.registry.specs.Records.{recordLimit, unused}
 use Rattle.engine.specs.declared.state.State.{State}
-use Rattle.pchelodar_c.specs.Written.{stateNumbers, numbersOf, at, queryNumbers, listNumbers, numbersIn, recordAt, putRecord, recordsIn}
+use Rattle.pchelodar_c.specs.Written.{stateNumbers, numbersOfState, at, queryNumbers, listNumbers, numbersIn, recordAt, putRecord, recordsIn}
 use Rattle.pchelodar_c.specs.Contracts.{KeptBeyond}
 use Rattle.pchelodar_c.proofs.States.{numbers-eighteen}
 
@@ -141,8 +141,8 @@ front-kept front w w′ k n l e =
     long d = omega arith
 
 -- of a state
-pub state-kept : (st : State) (registered : ℕ) (w w′ : List ℕ) → stateNumbers ≤ length w → w′ ≡ numbersOf st registered ++ drop stateNumbers w → KeptBeyond stateNumbers w w′
-state-kept st registered w w′ = front-kept (numbersOf st registered) w w′ stateNumbers (numbers-eighteen st registered)
+pub state-kept : (st : State) (registered : ℕ) (w w′ : List ℕ) → stateNumbers ≤ length w → w′ ≡ numbersOfState st registered ++ drop stateNumbers w → KeptBeyond stateNumbers w w′
+state-kept st registered w w′ = front-kept (numbersOfState st registered) w w′ stateNumbers (numbers-eighteen st registered)
 
 -- of a query list
 pub list-kept : (qs : List Query) (ns ns′ : List ℕ) → listNumbers ≤ length ns → ns′ ≡ numbersIn qs ++ drop listNumbers ns → recordsIn recordLimit ns′ ≡ qs → KeptBeyond listNumbers ns ns′

@@ -18,7 +18,7 @@ use Rattle.engine.specs.declared.partial.Open.{Open}
 use Rattle.engine.specs.declared.partial.Open.the-variants.{Nothing, Empty, Holding}
 use Rattle.engine.specs.declared.state.State.{State}
 use Rattle.pchelodar_c.specs.Signed.{unsigned, signed}
-use Rattle.pchelodar_c.specs.Written.{stateNumbers, width32, caseOf, heldIn, heldOf, openOf, sumsOf, dequeOf, at, narrow, numbersOf, stateOf, withinWidths, registeredIn}
+use Rattle.pchelodar_c.specs.Written.{stateNumbers, width32, caseOf, heldIn, heldOf, openOf, sumsOf, dequeOf, at, narrow, numbersOfState, stateOf, withinWidths, registeredIn}
 use Rattle.pchelodar_c.proofs.Signs.{signed-unsigned, unsigned-narrow}
 
 -- an aggregate by its parts
@@ -57,8 +57,8 @@ pub written-numbers : (st : State) (registered : ℕ) {held : Aggregate} {case s
     ∷ st .minima .comparisons
     ∷ registered
     ∷ [])
-    ≡ numbersOf st registered
-unfolding numbersOf
+    ≡ numbersOfState st registered
+unfolding numbersOfState
 written-numbers st registered k h a b c d e = rw (k, a, b, c, d, e, h) refl
 
 -- what a state is within as the machine has it: the widths of its numbers
@@ -92,8 +92,8 @@ held-again a s f g =
     (ap signed (narrow-same (unsigned (a .minimum)) (unsigned-narrow (a .minimum) g)) ∙ signed-unsigned (a .minimum))
 
 -- a state that is written is read again
-pub state-again : (st : State) (registered : ℕ) → Within st → stateOf (numbersOf st registered) ≡ st
-unfolding stateOf numbersOf
+pub state-again : (st : State) (registered : ℕ) → Within st → stateOf (numbersOfState st registered) ≡ st
+unfolding stateOf numbersOfState
 state-again st registered w =
     rw (
       narrow-same (st .count) (w .count),
@@ -106,8 +106,8 @@ state-again st registered w =
     refl
 
 -- and so is how many queries are registered
-pub registered-again : (st : State) (registered : ℕ) → Within st → registeredIn (numbersOf st registered) ≡ registered
-unfolding registeredIn withinWidths numbersOf
+pub registered-again : (st : State) (registered : ℕ) → Within st → registeredIn (numbersOfState st registered) ≡ registered
+unfolding registeredIn withinWidths numbersOfState
 registered-again st registered w =
     rw (
       lt-ltb (st .count) width32 (w .count),
@@ -120,6 +120,6 @@ registered-again st registered w =
     refl
 
 -- eighteen of them
-pub numbers-eighteen : (st : State) (registered : ℕ) → length (numbersOf st registered) ≡ stateNumbers
-unfolding numbersOf
+pub numbers-eighteen : (st : State) (registered : ℕ) → length (numbersOfState st registered) ≡ stateNumbers
+unfolding numbersOfState
 numbers-eighteen st registered = refl

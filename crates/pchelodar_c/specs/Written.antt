@@ -39,8 +39,8 @@ heldIn Empty = record { start = 0; sum = pos 0; maximum = pos 0; minimum = pos 0
 heldIn (Holding a) = a
 
 -- the numbers of a state, with so many queries registered
-unfoldable pub numbersOf : State → ℕ → List ℕ
-numbersOf st registered =
+unfoldable pub numbersOfState : State → ℕ → List ℕ
+numbersOfState st registered =
     st .count
     ∷ st .closed
     ∷ caseOf (st .partial)

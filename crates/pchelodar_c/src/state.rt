@@ -15,7 +15,7 @@ ghost use mathlib.Core.List.{_++_};
 ghost use Prim.Native.Nat.{_≤_};
 ghost use lib.ListN.{length, take, drop};
 ghost use Rattle.pchelodar_c.specs.Signed.{signed};
-ghost use Rattle.pchelodar_c.specs.Written.{stateNumbers, caseOf, heldIn, numbersOf, narrow, openOf, heldOf, sumsOf, dequeOf, stateOf, withinWidths, registeredIn};
+ghost use Rattle.pchelodar_c.specs.Written.{stateNumbers, caseOf, heldIn, numbersOfState, narrow, openOf, heldOf, sumsOf, dequeOf, stateOf, withinWidths, registeredIn};
 
 // How many numbers a state is written as.
 pub const STATE_NUMBERS: usize = 18;
@@ -168,7 +168,7 @@ fn held_in(partial: Open) -> Aggregate
 
 // The numbers of a state, with so many queries registered. They are read again as that state.
 fn numbers_of(state: State, registered: usize) -> [u64; 18]
-    ensures written { λ r. ⌜ r ≡ numbersOf state registered ⌝ }
+    ensures written { λ r. ⌜ r ≡ numbersOfState state registered ⌝ }
     ensures read { λ r. ⌜ (stateOf r ≡ state) × (registeredIn r ≡ registered) ⌝ }
 {
     let partial = state.partial;
@@ -230,7 +230,7 @@ fn store_numbers(words: &mut [u64], w: [u64; 18])
 // The state is written: it is read again as it was.
 pub(crate) fn store_state(words: &mut [u64], state: State, registered: usize)
     requires { ⌜ stateNumbers ≤ length (now words) ⌝ }
-    ensures written { λ _. ⌜ now (words .exit) ≡ numbersOf state registered ++ drop stateNumbers (now (words .entry)) ⌝ }
+    ensures written { λ _. ⌜ now (words .exit) ≡ numbersOfState state registered ++ drop stateNumbers (now (words .entry)) ⌝ }
     ensures read { λ _. ⌜ (stateOf (take stateNumbers (now (words .exit))) ≡ state) × (registeredIn (take stateNumbers (now (words .exit))) ≡ registered) ⌝ }
 {
     let w = numbers_of(state, registered);

@@ -11,7 +11,7 @@ use borrow.Author.Tests.{ltb-true, ltb-false, le-leb, leb-true, ne-eqb}
 use mir.Syntax.{w32}
 use mir.Val.{SFits}
 use Rattle.window.proofs.Lists.{and-left, and-right}
-use Rattle.parse.specs.Numbers.{digit, digits, written, valueFrom, numberOf, signedOf, positive, negative}
+use Rattle.parse.specs.Numbers.{digit, digits, written, digitsValue, numberOf, signedOf, positive, negative}
 use Rattle.parse.specs.declared.numbers.Number.{Number}
 use Rattle.parse.specs.declared.numbers.Signed.{Signed}
 use Rattle.parse.proofs.Digits.{number-is, signed-plus}
@@ -20,7 +20,7 @@ use Rattle.print.proofs.Digits.{decimal-small, decimal-large}
 
 -- ---- one more digit at the end
 
-value-snoc : (k : ℕ) (xs : List ℕ) (b : ℕ) → valueFrom k (xs ++ (b ∷ [])) ≡ valueFrom k xs * 10 + (b - 48)
+value-snoc : (k : ℕ) (xs : List ℕ) (b : ℕ) → digitsValue k (xs ++ (b ∷ [])) ≡ digitsValue k xs * 10 + (b - 48)
 value-snoc k [] b = refl
 value-snoc k (x ∷ xs) b = value-snoc (k * 10 + (x - 48)) xs b
 
@@ -33,7 +33,7 @@ digits-snoc (x ∷ xs) b h e =
     both (digit x) (digits (xs ++ (b ∷ []))) (and-left (digit x) (digits xs) h) (digits-snoc xs b (and-right (digit x) (digits xs) h) e)
 
 -- behind a number other than 0
-written-snoc : (xs : List ℕ) (b : ℕ) → 1 ≤ valueFrom 0 xs → written xs ≡ true → digit b ≡ true → written (xs ++ (b ∷ [])) ≡ true
+written-snoc : (xs : List ℕ) (b : ℕ) → 1 ≤ digitsValue 0 xs → written xs ≡ true → digit b ≡ true → written (xs ++ (b ∷ [])) ≡ true
 written-snoc [] b l h e = absurd (false≢true h)
 written-snoc (x ∷ []) b l h e =
     both (not (eqb x 48)) (digits (x ∷ b ∷ [])) (ap not (ne-eqb x 48 (λ s. omega arith))) (digits-snoc (x ∷ []) b (both (digit x) true h refl) e)
@@ -45,7 +45,7 @@ written-snoc (x ∷ y ∷ xs) b l h e =
 
 -- xs is how n is written
 record Text (n : ℕ) (xs : List ℕ) : Type 0 where
-  value : valueFrom 0 xs ≡ n
+  value : digitsValue 0 xs ≡ n
   well : written xs ≡ true
 
 digit-of : (d : ℕ) → d < 10 → digit (48 + d) ≡ true

@@ -11,7 +11,7 @@ use lib.Seq.{slice-empty, length-slice, take-take, length-take-le, drop-append-l
 use borrow.Author.Tests.{leb-false, le-leb, lt-leb}
 use Rattle.window.specs.Lists.{joined, Each}
 use Rattle.window.specs.Orders.{aggregate}
-use Rattle.window.specs.Partials.{Partial, spanning, Entry, between, held, entry, entries, live, partialsFrom, entriesFrom, valueOf}
+use Rattle.window.specs.Partials.{Partial, spanning, Entry, between, readingsOf, entry, entries, live, partialsFrom, entriesFrom, valueOf}
 use Rattle.window.specs.Invariant.{Ordered, Tiles, Sorted}
 use Rattle.window.proofs.Lists.{each-map, filter-append, filter-none, filter-map}
 use Rattle.window.proofs.Orders.{aggregate-joined}
@@ -131,24 +131,24 @@ entries-stable f rs more a (p ∷ ps) h = rw (between-stable rs more (p .start) 
 
 module _ {A : Type 0} (rs : List A) where
   -- W2: its readings are those of the tiles, one tile after the other
-  pub tiles-readings : (a : ℕ) (ps : List Partial) (c : ℕ) → c ≤ length rs → Tiles a ps c → between rs a c ≡ joined (map (held rs) ps)
+  pub tiles-readings : (a : ℕ) (ps : List Partial) (c : ℕ) → c ≤ length rs → Tiles a ps c → between rs a c ≡ joined (map (readingsOf rs) ps)
   tiles-readings a [] c l h = ap (λ (i : ℕ). between rs i c) h ∙ slice-empty c rs
   tiles-readings a (p ∷ ps) c l h =
       let b : p .stop ≤ c = tiles-le (p .stop) ps c (h .2) in
       ap (λ (i : ℕ). between rs i c) (sym (h .0))
       ∙ between-join rs (p .start) (p .stop) c (omega (arith, h .1)) b (omega arith)
-      ∙ ap (λ (x : List A). held rs p ++ x) (tiles-readings (p .stop) ps c l (h .2))
+      ∙ ap (λ (x : List A). readingsOf rs p ++ x) (tiles-readings (p .stop) ps c l (h .2))
 
   -- and each tile holds a reading
-  tiles-nonempty : (a : ℕ) (ps : List Partial) (c : ℕ) → c ≤ length rs → Tiles a ps c → Each (λ (x : List A). 0 < length x) (map (held rs) ps)
+  tiles-nonempty : (a : ℕ) (ps : List Partial) (c : ℕ) → c ≤ length rs → Tiles a ps c → Each (λ (x : List A). 0 < length x) (map (readingsOf rs) ps)
   tiles-nonempty a [] c l h = tt
   tiles-nonempty a (p ∷ ps) c l h =
       let b : p .stop ≤ c = tiles-le (p .stop) ps c (h .2) in
       (rw (length-slice (p .start) (p .stop) rs (omega arith)) (omega (arith, h .1)), tiles-nonempty (p .stop) ps c l (h .2))
 
-  values-held : {B : Type 0} (f : List A → B) (ps : List Partial) → map valueOf (entries f rs ps) ≡ map f (map (held rs) ps)
+  values-held : {B : Type 0} (f : List A → B) (ps : List Partial) → map valueOf (entries f rs ps) ≡ map f (map (readingsOf rs) ps)
   values-held f [] = refl
-  values-held {B} f (p ∷ ps) = ap (λ (l : List B). f (held rs p) ∷ l) (values-held f ps)
+  values-held {B} f (p ∷ ps) = ap (λ (l : List B). f (readingsOf rs p) ∷ l) (values-held f ps)
 
   -- W3: so its aggregate is that of the tiles' aggregates
   pub aggregate-tiles : (op : A → A → A) (none : A) (assoc : (x y z : A) → op (op x y) z ≡ op x (op y z)) (a : ℕ) (p : Partial) (ps : List Partial) (c : ℕ)
@@ -156,5 +156,5 @@ module _ {A : Type 0} (rs : List A) where
       → aggregate op none (between rs a c) ≡ aggregate op none (map valueOf (entries (aggregate op none) rs (p ∷ ps)))
   aggregate-tiles op none assoc a p ps c l h =
       ap (aggregate op none) (tiles-readings a (p ∷ ps) c l h)
-      ∙ aggregate-joined op none assoc (held rs p) (map (held rs) ps) (tiles-nonempty a (p ∷ ps) c l h)
+      ∙ aggregate-joined op none assoc (readingsOf rs p) (map (readingsOf rs) ps) (tiles-nonempty a (p ∷ ps) c l h)
       ∙ ap (aggregate op none) (sym (values-held (aggregate op none) (p ∷ ps)))

@@ -21,8 +21,8 @@ abbrev pub between : {A : Type 0} → List A → ℕ → ℕ → List A
 between readings a b = slice a b readings
 
 -- the readings that a partial holds
-abbrev pub held : {A : Type 0} → List A → Partial → List A
-held readings p = between readings (p .start) (p .stop)
+abbrev pub readingsOf : {A : Type 0} → List A → Partial → List A
+readingsOf readings p = between readings (p .start) (p .stop)
 
 -- what is kept of a partial: its start, with an aggregate of its readings
 pub record Entry (A : Type 0) : Type 0 where
@@ -35,7 +35,7 @@ valueOf e = e .value
 
 -- the entry of a partial, by the aggregate f
 abbrev pub entry : {A B : Type 0} → (List A → B) → List A → Partial → Entry B
-entry f readings p = record { start = p .start; value = f (held readings p) }
+entry f readings p = record { start = p .start; value = f (readingsOf readings p) }
 
 -- the entries of partials, in their order
 abbrev pub entries : {A B : Type 0} → (List A → B) → List A → List Partial → List (Entry B)

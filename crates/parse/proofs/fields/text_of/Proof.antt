@@ -1,7 +1,7 @@
 -- `text_of` meets its contract: the part of the line in which the field stands. Assumes nothing.
 use mathlib.Core.Path.{sym, ap, subst}
 use borrow.Author.Needs.{needs}
-use Rattle.parse.specs.Fields.{bytesOf, Within}
+use Rattle.parse.specs.Fields.{bytesOf, InLine}
 use Rattle.parse.specs.declared.fields.Field.the-variants.{Text}
 use Rattle.parse.proofs.fields.text_of.Statement.{statement}
 use Rattle.parse.proofs.fields.text_of.Tie as tie
@@ -10,8 +10,8 @@ enum-known-field : tie.Need-enum-known-field
 enum-known-field c = search needs
 
 -- where the field starts and ends, in the line
-stands : (c : tie.After-known-told) → Within (c .before .before .before .args .line .now) (Text (c .before .field .given .0 .0) (c .before .field .given .0 .1 .0))
-stands c = subst (Within (c .before .before .before .args .line .now)) (c .before .field .given .1) (c .before .before .before .pre)
+stands : (c : tie.After-known-told) → InLine (c .before .before .before .args .line .now) (Text (c .before .field .given .0 .0) (c .before .field .given .0 .1 .0))
+stands c = subst (InLine (c .before .before .before .args .line .now)) (c .before .field .given .1) (c .before .before .before .pre)
 
 sub-result : tie.Need-sub-result
 sub-result c = stands c .0

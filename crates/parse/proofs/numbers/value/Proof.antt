@@ -3,13 +3,13 @@ use Prim.Native.Nat.{_+_, _*_, _≤_, _-_, min}
 use mathlib.Core.Path.{_≡_, refl, _∙_, ap}
 use lib.ListN.{length, drop}
 use native.Mathlib.Omega.{arith}
-use Rattle.parse.specs.Numbers.{valueFrom}
+use Rattle.parse.specs.Numbers.{digitsValue}
 use Rattle.parse.proofs.Digits.{value-more, value-end}
 use Rattle.parse.proofs.numbers.value.Statement.{statement}
 use Rattle.parse.proofs.numbers.value.Tie as tie
 
 abbrev Inv-loop : tie.InvT-loop
-Inv-loop s cap n₀ i₀ n i = (i ≤ length s) × ((n ≤ cap) × (min cap (valueFrom 0 s) ≡ min cap (valueFrom n (drop i s))))
+Inv-loop s cap n₀ i₀ n i = (i ≤ length s) × ((n ≤ cap) × (min cap (digitsValue 0 s) ≡ min cap (digitsValue n (drop i s))))
 
 abbrev μ-loop : tie.MeasureT-loop
 μ-loop s cap n₀ i₀ n i = length s - i
