@@ -1,15 +1,19 @@
 // What a caller has to provide for: the bytes that it lends, the stack that a call takes, and the reading that takes
 // longest. `bench/worst` builds and runs it; bench/README.md says how it measures.
+#[path = "caller/board.rs"]
 mod board; // everything that a caller lends
+#[path = "caller/cases.rs"]
 mod cases; // readings that take long
 #[path = "engine/clock.rs"]
 mod clock; // processor time
+#[path = "caller/depth.rs"]
 mod depth; // the stack of the five calls
 #[path = "../bindings/rust/pchelodar.rs"]
 mod pchelodar;
 #[allow(dead_code)]
 #[path = "../bindings/damage/random.rs"]
 mod random;
+#[path = "caller/stack.rs"]
 mod stack; // a call on a stack of its own
 
 use board::Board;
