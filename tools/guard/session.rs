@@ -2,8 +2,9 @@
 //! `let got = libc::read(STDIN_FILENO, chunk);`, and the next statement hands `got` to `after_read` as its first
 //! argument. Every write to standard output is `let said = io::write_all(STDOUT_FILENO, &out[..at]);`, and the next
 //! statement hands `said` to `after_write` so; `at` is what `feed` or `finish` returned just before, for the same
-//! `out`. What the two come to is what the function returns, or ends a loop by `VERDICT`. Nothing else is read or
-//! written, but messages on standard error.
+//! `out`. What the two come to is what the function returns, or ends a loop by `VERDICT`; the verdicts that rest on what
+//! was heard are named where it is decided on, and nowhere else (`NAMED`). Nothing else is read or written, but messages
+//! on standard error.
 
 use crate::shape::{arguments, arms, statements};
 use crate::source::{Finding, Function, Sources};
@@ -23,6 +24,14 @@ const HEARD: [(&str, &str, &str); 2] = [(READ, "got", "after_read"), (WRITE, "sa
 /// What follows where the function goes on: what was returned is taken apart, and all but `Onward` ends it as it is.
 const APART: [&str; 2] = ["held = next.session;", "let progress = next.progress;"];
 const VERDICT: &str = "match progress { Progress::Onward => {} _ => return Running { session: held, progress, }, }";
+
+/// The verdicts that rest on what was heard, and the functions that name them: the one that decides, and those that look
+/// at it in the end.
+const NAMED: [(&str, [&str; 2]); 3] = [
+    ("WriteFailed", ["after_write", "report_failure"]),
+    ("ReadFailed", ["after_read", "report_failure"]),
+    ("InputEnded", ["after_read", "conclude"]),
+];
 
 /// The functions whose length is written: `feed` returns it in the field `at`, `finish` as it is.
 const FEED: &str = "session :: stream :: feed (";
@@ -47,6 +56,12 @@ pub fn rule(sources: &Sources) -> Vec<Finding> {
     for function in sources.functions.iter().filter(|function| function.krate == CRATE) {
         let heard = Heard { sources, function };
         heard.kit_mentions(&function.body, &mut found);
+        for (verdict, _) in NAMED.iter().filter(|(_, functions)| !functions.contains(&function.name.as_str())) {
+            if mentions(&function.body, verdict) > 0 {
+                let what = format!("`{verdict}` is named in `{}`, where nothing was heard", function.name);
+                found.push(function.finding(function.line, what));
+            }
+        }
         for (count, (statement, name, taker)) in counts.iter_mut().zip(HEARD) {
             *count += heard.count(statement, name, taker, &mut found);
         }
