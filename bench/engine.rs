@@ -1,6 +1,8 @@
 // Benchmark of the engine alone, without text lines: the proved library against three plain ways to do the same in
 // Rust, side by side in one run over the same stream. `bench/run` builds and runs it; bench/README.md says how it
 // measures.
+#[cfg(not(without_library))]
+mod board; // the slices that are lent to every call
 #[path = "engine/clock.rs"]
 mod clock; // processor time
 #[path = "engine/contender.rs"]
@@ -14,6 +16,9 @@ mod library; // the proved engine through the static library
 mod measure; // equal answers first, then rounds
 #[path = "engine/options.rs"]
 mod options; // the command line
+#[cfg(not(without_library))]
+#[path = "../bindings/rust/pchelodar.rs"]
+mod pchelodar; // the library's functions
 #[path = "engine/per_query.rs"]
 mod per_query; // each query on its own
 #[path = "engine/picture.rs"]

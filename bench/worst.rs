@@ -1,13 +1,14 @@
 // What a caller has to provide for: the bytes that it lends, the stack that a call takes, and the reading that takes
 // longest. `bench/worst` builds and runs it; bench/README.md says how it measures.
-#[path = "caller/board.rs"]
-mod board; // everything that a caller lends
+mod board; // the slices that are lent to every call
 #[path = "caller/cases.rs"]
 mod cases; // readings that take long
 #[path = "engine/clock.rs"]
 mod clock; // processor time
 #[path = "caller/depth.rs"]
 mod depth; // the stack of the five calls
+#[path = "caller/lent.rs"]
+mod lent; // everything that a caller lends
 #[path = "../bindings/rust/pchelodar.rs"]
 mod pchelodar;
 #[allow(dead_code)]
@@ -16,8 +17,8 @@ mod random;
 #[path = "caller/stack.rs"]
 mod stack; // a call on a stack of its own
 
-use board::Board;
 use cases::{Case, BEFORE, CASES};
+use lent::Lent;
 use pchelodar::Engine;
 use std::process::exit;
 use std::time::Instant;
@@ -55,7 +56,7 @@ fn find(name: &str) -> Option<&'static Case> {
 }
 
 fn print_lent() {
-    let lent = Board::new().bytes();
+    let lent = Lent::new().bytes();
     println!("| lent | bytes |\n|---|---:|");
     lent.iter().for_each(|(name, bytes)| println!("| {name} | {bytes} |"));
     println!("| in all | {} |", lent.iter().map(|(_, bytes)| bytes).sum::<usize>());

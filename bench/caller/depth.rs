@@ -1,6 +1,7 @@
 // The stack that each of the five calls takes: the most over a run of varied calls, refused ones and damaged boards
 // among them.
-use crate::board::{Board, LIST_NUMBERS, SLICES};
+use crate::board::LIST_NUMBERS;
+use crate::lent::{Lent, SLICES};
 use crate::pchelodar::{raw, STATE_NUMBERS};
 use crate::random::Random;
 use crate::stack::{stacked_bytes, Stack};
@@ -63,7 +64,7 @@ struct Seen {
 struct Run {
     random: Random,
     stack: Stack,
-    board: Box<Board>,
+    lent: Box<Lent>,
     // Ranges and slides up to this.
     longest: usize,
     // Readings go on from the last one by this, or are any number.
@@ -75,7 +76,7 @@ struct Run {
 impl Run {
     // A call of this name with random arguments, some of them outside their limits.
     fn call(&mut self, name: Name) {
-        let mut arguments = self.board.slices().to_vec();
+        let mut arguments = self.lent.slices();
         if self.random.one_in(64) {
             let places = 2 * self.random.below(SLICES) + 1;
             arguments[places] = self.random.word(arguments[places]);
@@ -85,7 +86,7 @@ impl Run {
             Name::Register => vec![self.number(), self.kind(), self.length(), self.length()],
             Name::Withdraw => vec![self.number()],
             Name::Reading => self.reading(),
-            Name::Totals => vec![self.board.totals.as_mut_ptr() as u64],
+            Name::Totals => vec![self.lent.totals.as_mut_ptr() as u64],
         });
         assert_eq!(arguments.len(), 2 * SLICES + name.more());
         // SAFETY: the arguments are those of the function: slices of the board, each with at most its own places.
@@ -123,9 +124,9 @@ impl Run {
     fn reading(&mut self) -> Vec<u64> {
         let any = self.random.next() as i32;
         self.last = self.step.map_or(any, |step| self.last.wrapping_add(step));
-        let all = self.board.answers.len() as u64;
+        let all = self.lent.answers.len() as u64;
         let places = if self.random.one_in(8) { self.random.word(all) } else { all };
-        let (answers, answered) = (self.board.answers.as_mut_ptr() as u64, &raw mut self.board.answered as u64);
+        let (answers, answered) = (self.lent.answers.as_mut_ptr() as u64, &raw mut self.lent.answered as u64);
         vec![answers, places, answered, u64::from(self.last as u32)]
     }
 
@@ -145,15 +146,15 @@ impl Run {
 
     // The same call on a board of which one number is another; then the board is as before.
     fn on_damage(&mut self, name: Name) {
-        let before = self.board.clone();
+        let before = self.lent.board.clone();
         let any = self.random.next();
         let number = self.random.pick(&[any, u64::from(u32::MAX), any % 5_000, 0]);
         match self.random.below(2) {
-            0 => self.board.state[self.random.below(STATE_NUMBERS)] = number,
-            _ => self.board.queries[self.random.below(LIST_NUMBERS)] = number as u32,
+            0 => self.lent.board.state[self.random.below(STATE_NUMBERS)] = number,
+            _ => self.lent.board.queries[self.random.below(LIST_NUMBERS)] = number as u32,
         }
         self.call(name);
-        self.board = before;
+        self.lent.board = before;
     }
 }
 
@@ -161,7 +162,7 @@ pub fn print() {
     let mut run = Run {
         random: Random::new(1),
         stack: Stack::new(),
-        board: Board::new(),
+        lent: Lent::new(),
         longest: 1,
         step: None,
         last: 0,

@@ -1,29 +1,17 @@
 // The proved engine through the static library: bindings/c/pchelodar.h has the calls. The slices are lent anew at each
 // call.
+use crate::board::Board;
 use crate::contender::{Answers, Contender, Query};
+use crate::pchelodar::raw;
 
-#[path = "../../bindings/rust/pchelodar.rs"]
-mod pchelodar;
-use pchelodar::{raw, QUERY_LIMIT, STATE_NUMBERS, TABLE_PLACES};
-
-const LIST_NUMBERS: usize = 5 * QUERY_LIMIT;
-
-// What is lent to every call.
 pub struct Library {
-    state: [u64; STATE_NUMBERS],
-    queries: [u32; LIST_NUMBERS],
-    starts: [u32; TABLE_PLACES],
-    sums: [i64; TABLE_PLACES],
-    max_starts: [u32; TABLE_PLACES],
-    max_values: [i32; TABLE_PLACES],
-    min_starts: [u32; TABLE_PLACES],
-    min_values: [i32; TABLE_PLACES],
+    board: Board,
 }
 
 // Makes a call with the slices of `$of` lent, and stops where it is refused.
 macro_rules! call {
     ($name:ident($of:expr $(, $argument:expr)*)) => {{
-        let of = $of;
+        let of = &mut $of.board;
         let refusal = unsafe {
             raw::$name(
                 of.state.as_mut_ptr(), of.state.len(), of.queries.as_mut_ptr(), of.queries.len(),
@@ -39,17 +27,8 @@ macro_rules! call {
 
 impl Library {
     pub fn new() -> Self {
-        let mut library = Library {
-            state: [0; STATE_NUMBERS],
-            queries: [0; LIST_NUMBERS],
-            starts: [0; TABLE_PLACES],
-            sums: [0; TABLE_PLACES],
-            max_starts: [0; TABLE_PLACES],
-            max_values: [0; TABLE_PLACES],
-            min_starts: [0; TABLE_PLACES],
-            min_values: [0; TABLE_PLACES],
-        };
-        call!(pchelodar_start(&mut library));
+        let mut library = Library { board: Board::new() };
+        call!(pchelodar_start(library));
         library
     }
 }
