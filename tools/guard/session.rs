@@ -2,7 +2,7 @@
 //! `let got = libc::read(STDIN_FILENO, chunk);`, and the next statement hands `got` to `after_read` as its first
 //! argument. Every write to standard output is `let said = io::write_all(STDOUT_FILENO, &out[..at]);`, and the next
 //! statement hands `said` to `after_write` so; `at` is what `feed` or `finish` returned just before, for the same
-//! `out`. What the two come to is what the function returns, or ends a loop by `VERDICT`; the verdicts that rest on what
+//! `out`. What the two come to is what the function returns, or ends a loop by one of `VERDICTS`; the verdicts that rest on what
 //! was heard are named where it is decided on, and nowhere else (`NAMED`). Nothing else is read or written, but messages
 //! on standard error.
 
@@ -21,9 +21,14 @@ const MESSAGE_IN: &str = "pchelodar message";
 /// What each answer is handed to, in the next statement.
 const HEARD: [(&str, &str, &str); 2] = [(READ, "got", "after_read"), (WRITE, "said", "after_write")];
 
-/// What follows where the function goes on: what was returned is taken apart, and all but `Onward` ends it as it is.
-const APART: [&str; 2] = ["held = next.session;", "let progress = next.progress;"];
-const VERDICT: &str = "match progress { Progress::Onward => {} _ => return Running { session: held, progress, }, }";
+/// What follows where the function goes on: what was returned is taken apart, and all but `Onward` ends it, with what
+/// was heard. Where it does not go on, `ENDING` is what it returns.
+const APART: [&str; 3] = ["held = next.session;", "let progress = next.progress;", "let said = next.said;"];
+const VERDICTS: [&str; 2] = [
+    "match progress { Progress::Onward => {} _ => return Fed { session: held, progress, said, }, }",
+    "match progress { Progress::Onward => {} _ => return Running { session: held, progress, got, said, }, }",
+];
+const ENDING: &str = "Ending { progress: after_write(said, Progress::InputEnded), said, }";
 
 /// The verdicts that rest on what was heard, and the functions that name them: the one that decides, and those that look
 /// at it in the end.
@@ -103,7 +108,7 @@ impl Heard<'_> {
     }
 
     /// How often a function has one of the statements. The next one hands the answer on, as it is, and nothing else
-    /// uses it; what takes it is called nowhere else.
+    /// uses it but what is returned with the verdict; what takes it is called nowhere else.
     fn count(&self, statement: &str, name: &str, taker: &str, found: &mut Vec<Finding>) -> usize {
         let (mut count, mut calls) = (0, 0);
         each_list(&self.function.body, &mut |list| {
@@ -113,12 +118,14 @@ impl Heard<'_> {
                 count += 1;
                 let line = parts[at][0].line;
                 let uses: usize = parts[at + 1..].iter().map(|part| mentions(part, name)).sum();
-                if uses != 1 || !parts.get(at + 1).is_some_and(|next| hands(next, name, taker)) {
-                    let what = format!("after `{statement}` the next statement is to hand `{name}` to `{taker}`, once");
+                if uses != 2 || !parts.get(at + 1).is_some_and(|next| hands(next, name, taker)) {
+                    let what = format!("after `{statement}` the next statement is to hand `{name}` to `{taker}`, and the verdict has it");
                     found.push(self.function.finding(line, what));
                 }
                 if !handed_on(&parts[at + 1..]) {
-                    let what = format!("what `{taker}` comes to is to be returned, or to go on by `{VERDICT}`");
+                    let what = format!(
+                        "what `{taker}` comes to is to be returned as `{ENDING}`, or to go on by one of `VERDICTS`"
+                    );
                     found.push(self.function.finding(line, what));
                 }
                 if statement == WRITE && !self.length_returned(&parts[..at]) {
@@ -158,15 +165,16 @@ impl Heard<'_> {
     }
 }
 
-/// Whether what the first of these statements comes to is returned, or decides by `VERDICT`.
+/// Whether what the first of these statements comes to is returned, or decides by one of `VERDICTS`.
 fn handed_on(parts: &[&[Tree]]) -> bool {
     let Some((taking, others)) = parts.split_first() else { return false };
     if others.is_empty() {
-        return begins(taking, "after_write (") && !taking[taking.len() - 1].is_sign(";");
+        return is_written(taking, ENDING);
     }
     let apart = others.iter().take_while(|part| APART.iter().any(|text| is_written(part, text))).count();
     let named = if apart == 0 { "let progress =" } else { "let next =" };
-    begins(taking, named) && others.get(apart).is_some_and(|part| is_written(part, VERDICT))
+    let decides = |part: &&[Tree]| VERDICTS.iter().any(|text| is_written(part, text));
+    begins(taking, named) && others.get(apart).is_some_and(decides)
 }
 
 fn mentions(part: &[Tree], name: &str) -> usize {

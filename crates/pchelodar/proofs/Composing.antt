@@ -21,7 +21,7 @@ use Rattle.session.proofs.Composing.{carries-nothing, carries-then, limit-many,
 use Rattle.pchelodar.specs.declared.Progress.{Progress}
 use Rattle.pchelodar.specs.declared.Progress.the-variants as progress
 use Rattle.pchelodar.proofs.Progress.{the-type}
-use Rattle.pchelodar.specs.Contracts.{afterWrite, afterFeed, ChunkFed, Read, readOf, size, brought, Failed, Ended, AfterRead, Intake, none, next, ReadsFed, FedUntil, AllRead, ReachedUntil, Handed, RanReads, Concluded, WholeRun}
+use Rattle.pchelodar.specs.Contracts.{Told, afterWrite, afterFeed, ChunkFed, Read, readOf, size, brought, Failed, Ended, AfterRead, Intake, none, next, ReadsFed, SomeFed, Heard, AllRead, ReachedUntil, Handed, RanReads, Concluded, WholeRun}
 
 -- ---- what a write said
 
@@ -55,6 +55,18 @@ stopped chunk said from to {h} {h′} p e k limit = go said (leb to from) refl e
     go true true l q = subst (ChunkFed chunk h h′) (sym q) (limit (leb-true to from l))
     go true false l q = absurd (miss (1 ∷ 2 ∷ 3 ∷ 4 ∷ []) 0 tt (subst (λ (x : Progress). OneOf (1 ∷ 2 ∷ 3 ∷ 4 ∷ []) (tagOf the-type x)) q k))
     go false b l q = subst (ChunkFed chunk h h′) (sym q) tt
+
+-- what follows a write is told by it, where the run would go on without a failure
+pub told-after : (said : Bool) (n p : Progress) → Told n true → p ≡ afterWrite said n → Told p said
+told-after true n p t e = subst (λ (x : Progress). Told x true) (sym e) t
+told-after false n p t e = subst (λ (x : Progress). Told x false) (sym e) refl
+
+pub told-feed : (from to : ℕ) → Told (afterFeed from to) true
+told-feed from to = go (leb to from)
+  where
+    go : (b : Bool) → Told (cond b progress.TooLong progress.Onward) true
+    go true = refl
+    go false = refl
 
 -- ---- what a read returned
 
@@ -137,23 +149,23 @@ read-more {m} {n} r {h₀} {h} h′ {p} l e fed a = go (came r)
         })
 
 -- the last read: the cases after which no other follows, by their numbers
-pub read-last : {n : ℕ} (r : Read) {h₀ h : Held} (h′ : Held) (p : Progress) → OneOf (1 ∷ 2 ∷ 3 ∷ 4 ∷ []) (tagOf the-type p) → ReadsFed n h₀ h → AfterRead r h h′ p → AllRead h₀ h′ p
+pub read-last : {n : ℕ} (r : Read) {h₀ h : Held} (h′ : Held) (p : Progress) → OneOf (1 ∷ 2 ∷ 3 ∷ 4 ∷ []) (tagOf the-type p) → ReadsFed n h₀ h → AfterRead r h h′ p → AllRead h₀ h′ p × Heard p r
 unfolding ChunkFed AllRead
 read-last {n} r {h₀} {h} h′ p k fed a = go (came r)
   where
-    until : (End : Read → Type 0) → End r → h′ ≡ h → FedUntil End h₀ h′
-    until End f e = subst (FedUntil End h₀) (sym e) (record { number = n; fed = fed; last = r; ends = f })
+    some-fed : h′ ≡ h → SomeFed h₀ h′
+    some-fed e = subst (SomeFed h₀) (sym e) (record { number = n; fed = fed })
 
-    fed-on : (q : Progress) → OneOf (1 ∷ 2 ∷ 3 ∷ 4 ∷ []) (tagOf the-type q) → ChunkFed (brought r) h h′ q → AllRead h₀ h′ q
+    fed-on : (q : Progress) → OneOf (1 ∷ 2 ∷ 3 ∷ 4 ∷ []) (tagOf the-type q) → ChunkFed (brought r) h h′ q → AllRead h₀ h′ q × Heard q r
     fed-on progress.Onward j f = absurd (miss (1 ∷ 2 ∷ 3 ∷ 4 ∷ []) 0 tt j)
     fed-on progress.InputEnded j f = absurd f
     fed-on progress.ReadFailed j f = absurd f
-    fed-on progress.WriteFailed j f = tt
-    fed-on progress.TooLong j f = limit-then (fed .carries) f
+    fed-on progress.WriteFailed j f = (tt, tt)
+    fed-on progress.TooLong j f = (limit-then (fed .carries) f, tt)
 
-    go : Came r → AllRead h₀ h′ p
-    go (failing f) = subst (AllRead h₀ h′) (sym (a .failed f .0)) (until Failed f (a .failed f .1))
-    go (ending f) = subst (AllRead h₀ h′) (sym (a .ended f .0)) (until Ended f (a .ended f .1))
+    go : Came r → AllRead h₀ h′ p × Heard p r
+    go (failing f) = subst (λ (q : Progress). AllRead h₀ h′ q × Heard q r) (sym (a .failed f .0)) (some-fed (a .failed f .1), f)
+    go (ending f) = subst (λ (q : Progress). AllRead h₀ h′ q × Heard q r) (sym (a .ended f .0)) (some-fed (a .ended f .1), f)
     go (bringing s) = fed-on p k (a .some s)
 
 -- no read is left
@@ -164,19 +176,19 @@ reads-spent l fed = limit-many (omega (arith, l, reads-many (fed .reads))) (fed 
 -- ---- the whole run
 
 -- all input, from the opening on
-pub all-handed : {lent : Tables} {h : Held} (h′ : Held) (p : Progress) → Reached lent [] h → AllRead h h′ p → Handed lent h′ p
+pub all-handed : {lent : Tables} {h : Held} (h′ : Held) (p : Progress) (last : Read) → Reached lent [] h → AllRead h h′ p → Heard p last → Handed lent h′ p
 unfolding AllRead Handed
-all-handed {lent} {h} h′ p first = go p
+all-handed {lent} {h} h′ p last first = go p
   where
-    from : {End : Read → Type 0} → FedUntil End h h′ → ReachedUntil End lent h′
-    from f = record { number = f .number; bytes = f .fed .bytes; reads = f .fed .reads; last = f .last; ends = f .ends; reached = f .fed .carries .on lent [] first }
+    from : {End : Read → Type 0} → SomeFed h h′ → End last → ReachedUntil End lent h′
+    from f e = record { number = f .number; bytes = f .fed .bytes; reads = f .fed .reads; last = last; ends = e; reached = f .fed .carries .on lent [] first }
 
-    go : (q : Progress) → AllRead h h′ q → Handed lent h′ q
-    go progress.Onward r = r
-    go progress.InputEnded r = from r
-    go progress.ReadFailed r = from r
-    go progress.WriteFailed r = tt
-    go progress.TooLong r = r .on lent [] first
+    go : (q : Progress) → AllRead h h′ q → Heard q last → Handed lent h′ q
+    go progress.Onward r e = r
+    go progress.InputEnded r e = from r e
+    go progress.ReadFailed r e = from r e
+    go progress.WriteFailed r e = tt
+    go progress.TooLong r e = r .on lent [] first
 
 -- where the input ended, it was fed
 pub handed-ended : (lent : Tables) (h : Held) {p : Progress} → p ≡ progress.InputEnded → Handed lent h p → ReachedUntil Ended lent h

@@ -24,6 +24,15 @@ abbrev pub afterWrite : Bool → Progress → Progress
 afterWrite true next = next
 afterWrite false next = progress.WriteFailed
 
+-- a write failed exactly where it said so: how a run goes on or ended, and what its last write said, true where there
+-- was none
+abbrev pub Told : Progress → Bool → Type 0
+Told progress.Onward said = said ≡ true
+Told progress.InputEnded said = said ≡ true
+Told progress.ReadFailed said = said ≡ true
+Told progress.WriteFailed said = said ≡ false
+Told progress.TooLong said = said ≡ true
+
 -- after_feed, of bytes from one place up to another: a session that took none has come to its limit
 abbrev pub afterFeed : ℕ → ℕ → Progress
 afterFeed from to = cond (leb to from) progress.TooLong progress.Onward
@@ -84,19 +93,25 @@ pub record ReadsFed (n : ℕ) (h h′ : Held) : Type 0 where
   pub reads : Intake n bytes
   pub carries : Carries bytes h h′
 
--- the same of some reads, after which one came to an end
-pub record FedUntil (End : Read → Type 0) (h h′ : Held) : Type 0 where
+-- the same of some reads
+pub record SomeFed (h h′ : Held) : Type 0 where
   pub number : ℕ
   pub fed : ReadsFed number h h′
-  pub last : Read
-  pub ends : End last
+
+-- a run ended as its last read says: it failed, or found the input ended
+abbrev pub Heard : Progress → Read → Type 0
+Heard progress.Onward r = Unit {0}
+Heard progress.InputEnded r = Ended r
+Heard progress.ReadFailed r = Failed r
+Heard progress.WriteFailed r = Unit {0}
+Heard progress.TooLong r = Unit {0}
 
 -- read_all: all that the reads brought was fed, up to the end of the input, or to where it could not be read. It stops
 -- before that only where a write failed, or at the limit
 unfoldable pub AllRead : Held → Held → Progress → Type 0
 AllRead h h′ progress.Onward = ⊥
-AllRead h h′ progress.InputEnded = FedUntil Ended h h′
-AllRead h h′ progress.ReadFailed = FedUntil Failed h h′
+AllRead h h′ progress.InputEnded = SomeFed h h′
+AllRead h h′ progress.ReadFailed = SomeFed h h′
 AllRead h h′ progress.WriteFailed = Unit {0}
 AllRead h h′ progress.TooLong = CarriesLimit h h′
 

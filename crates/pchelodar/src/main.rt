@@ -12,7 +12,7 @@ ghost use Prim.Native.Nat.{_≤_};
 ghost use lib.ListN.{length};
 ghost use Rattle.engine.specs.Tables.{Tables, tables, tablesLong};
 ghost use Rattle.session.specs.Contracts.{held, finishRoom};
-ghost use Rattle.pchelodar.specs.Contracts.{afterWrite, afterFeed, ChunkFed, readOf, AfterRead, AllRead, Handed, Concluded};
+ghost use Rattle.pchelodar.specs.Contracts.{Told, afterWrite, afterFeed, ChunkFed, readOf, AfterRead, Heard, AllRead, Handed, Concluded};
 
 // How a run goes on, or ended.
 enum Progress {
@@ -23,9 +23,25 @@ enum Progress {
     TooLong,
 }
 
+// What was made of some bytes: the session, how the run goes on, and what the last write said.
+struct Fed {
+    session: Session,
+    progress: Progress,
+    said: bool,
+}
+
+// The same of all reads, with what the last of them returned.
 struct Running {
     session: Session,
     progress: Progress,
+    got: isize,
+    said: bool,
+}
+
+// How the run ended, and what the last write said.
+struct Ending {
+    progress: Progress,
+    said: bool,
 }
 
 // What follows a write: it failed where it said so, and else the run goes on as it would.
@@ -59,11 +75,11 @@ fn feed_chunk(
     min_values: &mut [i32],
     chunk: &[u8],
     out: &mut [u8],
-) -> Running
+) -> Fed
     requires { ⌜ finishRoom ≤ length (now out) ⌝ }
-    ensures { λ r. ⌜ ChunkFed (now (chunk .entry))
+    ensures { λ r. ⌜ (ChunkFed (now (chunk .entry))
         (held session (tables (now (starts .entry)) (now (sums .entry)) (now («max_starts» .entry)) (now («max_values» .entry)) (now («min_starts» .entry)) (now («min_values» .entry))))
-        (held (r .session) (tables (now (starts .exit)) (now (sums .exit)) (now («max_starts» .exit)) (now («max_values» .exit)) (now («min_starts» .exit)) (now («min_values» .exit)))) (r .progress) ⌝ }
+        (held (r .session) (tables (now (starts .exit)) (now (sums .exit)) (now («max_starts» .exit)) (now («max_values» .exit)) (now («min_starts» .exit)) (now («min_values» .exit)))) (r .progress)) × Told (r .progress) (r .said) ⌝ }
 {
     let mut held = session;
     let mut from = 0;
@@ -87,16 +103,18 @@ fn feed_chunk(
         let progress = after_write(said, after_feed(from, to));
         match progress {
             Progress::Onward => {}
-            _ => return Running {
+            _ => return Fed {
                 session: held,
                 progress,
+                said,
             },
         }
         from = to;
     }
-    Running {
+    Fed {
         session: held,
         progress: Progress::Onward,
+        said: true,
     }
 }
 
@@ -113,23 +131,25 @@ fn after_read(
     min_values: &mut [i32],
     chunk: &[u8],
     out: &mut [u8],
-) -> Running
+) -> Fed
     requires { ⌜ finishRoom ≤ length (now out) ⌝ }
-    ensures { λ r. ⌜ AfterRead (readOf got (now (chunk .entry)))
+    ensures { λ r. ⌜ (AfterRead (readOf got (now (chunk .entry)))
         (held session (tables (now (starts .entry)) (now (sums .entry)) (now («max_starts» .entry)) (now («max_values» .entry)) (now («min_starts» .entry)) (now («min_values» .entry))))
-        (held (r .session) (tables (now (starts .exit)) (now (sums .exit)) (now («max_starts» .exit)) (now («max_values» .exit)) (now («min_starts» .exit)) (now («min_values» .exit)))) (r .progress) ⌝ }
+        (held (r .session) (tables (now (starts .exit)) (now (sums .exit)) (now («max_starts» .exit)) (now («max_values» .exit)) (now («min_starts» .exit)) (now («min_values» .exit)))) (r .progress)) × Told (r .progress) (r .said) ⌝ }
 {
     if got < 0 {
-        return Running {
+        return Fed {
             session,
             progress: Progress::ReadFailed,
+            said: true,
         };
     }
     let count = io::count(got, chunk);
     if count == 0 {
-        return Running {
+        return Fed {
             session,
             progress: Progress::InputEnded,
+            said: true,
         };
     }
     feed_chunk(
@@ -159,8 +179,9 @@ fn read_all(
     out: &mut [u8],
 ) -> Running
     requires { ⌜ finishRoom ≤ length (now out) ⌝ }
-    ensures { λ r. ⌜ AllRead (held session (tables (now (starts .entry)) (now (sums .entry)) (now («max_starts» .entry)) (now («max_values» .entry)) (now («min_starts» .entry)) (now («min_values» .entry))))
-        (held (r .session) (tables (now (starts .exit)) (now (sums .exit)) (now («max_starts» .exit)) (now («max_values» .exit)) (now («min_starts» .exit)) (now («min_values» .exit)))) (r .progress) ⌝ }
+    ensures { λ r. ⌜ (AllRead (held session (tables (now (starts .entry)) (now (sums .entry)) (now («max_starts» .entry)) (now («max_values» .entry)) (now («min_starts» .entry)) (now («min_values» .entry))))
+        (held (r .session) (tables (now (starts .exit)) (now (sums .exit)) (now («max_starts» .exit)) (now («max_values» .exit)) (now («min_starts» .exit)) (now («min_values» .exit)))) (r .progress))
+        × (Heard (r .progress) (readOf (r .got) (now (chunk .exit))) × Told (r .progress) (r .said)) ⌝ }
 {
     let mut held = session;
     let mut reads: u64 = 18_446_744_073_709_551_615;
@@ -181,17 +202,22 @@ fn read_all(
         );
         held = next.session;
         let progress = next.progress;
+        let said = next.said;
         match progress {
             Progress::Onward => {}
             _ => return Running {
                 session: held,
                 progress,
+                got,
+                said,
             },
         }
     }
     Running {
         session: held,
         progress: Progress::TooLong,
+        got: 0,
+        said: true,
     }
 }
 
@@ -206,10 +232,11 @@ fn conclude(
     min_starts: &mut [Count],
     min_values: &mut [i32],
     out: &mut [u8],
-) -> Progress
+) -> Ending
     requires { ⌜ finishRoom ≤ length (now out) ⌝ }
-    ensures { λ r. ⌜ ((lent : Tables) → Handed lent (held (done .session) (tables (now (starts .entry)) (now (sums .entry)) (now («max_starts» .entry)) (now («max_values» .entry)) (now («min_starts» .entry)) (now («min_values» .entry)))) (done .progress)
-        → Concluded lent (tables (now (starts .exit)) (now (sums .exit)) (now («max_starts» .exit)) (now («max_values» .exit)) (now («min_starts» .exit)) (now («min_values» .exit))) (now (out .exit)) r) ⌝ }
+    ensures { λ r. ⌜ (((lent : Tables) → Handed lent (held (done .session) (tables (now (starts .entry)) (now (sums .entry)) (now («max_starts» .entry)) (now («max_values» .entry)) (now («min_starts» .entry)) (now («min_values» .entry)))) (done .progress)
+        → Concluded lent (tables (now (starts .exit)) (now (sums .exit)) (now («max_starts» .exit)) (now («max_values» .exit)) (now («min_starts» .exit)) (now («min_values» .exit))) (now (out .exit)) (r .progress)))
+        × (Told (done .progress) (done .said) → Told (r .progress) (r .said)) ⌝ }
 {
     let session = done.session;
     let progress = done.progress;
@@ -224,10 +251,16 @@ fn conclude(
             min_values,
             out,
         ),
-        _ => return progress,
+        _ => return Ending {
+            progress,
+            said: done.said,
+        },
     };
     let said = io::write_all(STDOUT_FILENO, &out[..at]);
-    after_write(said, Progress::InputEnded)
+    Ending {
+        progress: after_write(said, Progress::InputEnded),
+        said,
+    }
 }
 
 // What ended the run before its time, on standard error.
@@ -260,10 +293,10 @@ fn run(
     min_values: &mut [i32],
     chunk: &mut [u8],
     out: &mut [u8],
-) -> Progress
+) -> Ending
     requires { ⌜ (tablesLong (tables (now starts) (now sums) (now «max_starts») (now «max_values») (now «min_starts») (now «min_values»)) ≡ true) × (finishRoom ≤ length (now out)) ⌝ }
-    ensures { λ r. ⌜ Concluded (tables (now (starts .entry)) (now (sums .entry)) (now («max_starts» .entry)) (now («max_values» .entry)) (now («min_starts» .entry)) (now («min_values» .entry)))
-        (tables (now (starts .exit)) (now (sums .exit)) (now («max_starts» .exit)) (now («max_values» .exit)) (now («min_starts» .exit)) (now («min_values» .exit))) (now (out .exit)) r ⌝ }
+    ensures { λ r. ⌜ (Concluded (tables (now (starts .entry)) (now (sums .entry)) (now («max_starts» .entry)) (now («max_values» .entry)) (now («min_starts» .entry)) (now («min_values» .entry)))
+        (tables (now (starts .exit)) (now (sums .exit)) (now («max_starts» .exit)) (now («max_values» .exit)) (now («min_starts» .exit)) (now («min_values» .exit))) (now (out .exit)) (r .progress)) × Told (r .progress) (r .said) ⌝ }
 {
     let opened = session::stream::open(
         starts,
@@ -305,7 +338,7 @@ fn main() {
     let mut min_values = [0i32; CAPACITY];
     let mut chunk = io::large_buffer();
     let mut out = io::large_buffer();
-    let progress = run(
+    let ending = run(
         &mut starts,
         &mut sums,
         &mut max_starts,
@@ -315,5 +348,6 @@ fn main() {
         &mut chunk,
         &mut out,
     );
+    let progress = ending.progress;
     report_failure(progress);
 }

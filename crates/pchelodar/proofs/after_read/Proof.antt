@@ -1,7 +1,7 @@
 -- `after_read` meets its contract: by what the read returned, nothing changes, or just what it brought is fed. Assumes
 -- nothing.
 use native.Mathlib.Omega.{arith}
-use mathlib.Core.Path.{_≡_, sym, ap, _∙_}
+use mathlib.Core.Path.{_≡_, refl, sym, ap, _∙_}
 use lib.IntN.{ℤ, pos}
 use lib.ListN.{length}
 use lib.Signed.{ltZ}
@@ -23,7 +23,7 @@ clamped-is : (s : tie.Start) → clamped (toZ w64 (ofZ w64 (s .args .got))) (len
 clamped-is s = ap (λ (z : ℤ). clamped z (length (s .args .chunk .now))) (toZ-ofZ (s .fits .got))
 
 returns : tie.Need-returns
-returns c = let s = c .before .before .before .before .before .before in read-failed (s .args .got) (s .args .chunk .now) _ (sym (below-is s) ∙ c .if1 .taken)
+returns c = let s = c .before .before .before .before .before .before in (read-failed (s .args .got) (s .args .chunk .now) _ (sym (below-is s) ∙ c .if1 .taken), refl)
 
 count-requires : tie.Need-count-requires
 count-requires c κs = search needs
@@ -31,7 +31,7 @@ count-requires c κs = search needs
 returns-2 : tie.Need-returns-2
 returns-2 c =
     let s = c .before .before .before .before .before .before .before .before in
-    read-ended (s .args .got) (s .args .chunk .now) _ (sym (below-is s) ∙ c .before .before .if1 .left) (omega (arith, clamped-is s, c .before .count .ensures .1, c .if2 .taken))
+    (read-ended (s .args .got) (s .args .chunk .now) _ (sym (below-is s) ∙ c .before .before .if1 .left) (omega (arith, clamped-is s, c .before .count .ensures .1, c .if2 .taken)), refl)
 
 slice-aggregate-feed-chunk : tie.Need-slice-aggregate-feed-chunk
 slice-aggregate-feed-chunk c = search needs
@@ -64,9 +64,11 @@ returns-3 : tie.Need-returns-3
 returns-3 c =
     let at-feed = c .before .before .before .before .before .before .before .before .before .before .before in
     let at-count = at-feed .before .before .before .before .before .before .before .before .before .before in
-    let s = at-count .before .before .before .before .before .before .before in
-    read-some (s .args .got) (s .args .chunk .now) (at-count .count .result) (sym (below-is s) ∙ at-count .before .if1 .left) (at-count .count .ensures .1 ∙ clamped-is s)
-    (omega (arith, at-feed .before .before .before .before .before .before .before .before .before .if2 .left)) (at-feed .feed-chunk .ensures)
+    let s = at-count .before .before .before .before .before .before .before in (
+      read-some (s .args .got) (s .args .chunk .now) (at-count .count .result) (sym (below-is s) ∙ at-count .before .if1 .left) (at-count .count .ensures .1 ∙ clamped-is s)
+          (omega (arith, at-feed .before .before .before .before .before .before .before .before .before .if2 .left)) (at-feed .feed-chunk .ensures .0),
+      at-feed .feed-chunk .ensures .1,
+    )
 
 pub after-read-spec : {M : Type 1} → statement M
 after-read-spec =

@@ -1,10 +1,12 @@
 -- `conclude` meets its contract: where the input ended, the session is finished, and whole where the last write did not
 -- fail. What is written is inside the output. Assumes nothing.
+use mathlib.Core.Path.{refl}
 use lib.ListN.{length-take}
 use native.Mathlib.Omega.{arith}
 use borrow.Author.Needs.{needs}
 use Rattle.session.proofs.Composing.{ran-all}
-use Rattle.pchelodar.proofs.Composing.{handed-ended, not-ended, concluded}
+use Rattle.pchelodar.specs.declared.Progress.the-variants as progress
+use Rattle.pchelodar.proofs.Composing.{told-after, handed-ended, not-ended, concluded}
 use Rattle.pchelodar.proofs.conclude.Statement.{statement}
 use Rattle.pchelodar.proofs.conclude.Tie as tie
 
@@ -15,7 +17,7 @@ finish-requires : tie.Need-finish-requires
 finish-requires c κs = search needs
 
 returns : tie.Need-returns
-returns c lent handed = not-ended lent _ _ (c .before .before .before .before .before .before .args .done .progress) (c .match .keys2) handed
+returns c = (λ lent handed. not-ended lent _ _ (c .before .before .before .before .before .before .args .done .progress) (c .match .keys2) handed, λ told. told)
 
 slice-reshare-prefix-write-all : tie.Need-slice-reshare-prefix-write-all
 slice-reshare-prefix-write-all c = search needs
@@ -53,12 +55,15 @@ same-length-7 : tie.Need-same-length-7
 same-length-7 c = search needs
 
 returns-2 : tie.Need-returns-2
-returns-2 c lent handed =
+returns-2 c =
     let at-finish = c .before .before .before .before .before .before .before .before .before .before .before .before .before .before in
     let at-told = at-finish .before .before .before .before .before .before .before .before in
-    let at-start = at-told .before .before .before .before .before .before .before in
-    let ended = handed-ended lent _ (at-told .enum-told .given .1) handed in
-    concluded (c .before .write-all .result) (c .after-write .result) (c .after-write .ensures) ended (ran-all (at-start .pre) (ended .reached) (at-finish .finish .ensures))
+    let at-start = at-told .before .before .before .before .before .before .before in (
+      λ lent handed.
+          let ended = handed-ended lent _ (at-told .enum-told .given .1) handed in
+          concluded (c .before .write-all .result) (c .after-write .result) (c .after-write .ensures) ended (ran-all (at-start .pre) (ended .reached) (at-finish .finish .ensures)),
+      λ _. told-after (c .before .write-all .result) progress.InputEnded (c .after-write .result) refl (c .after-write .ensures),
+    )
 
 pub conclude-spec : {M : Type 1} → statement M
 conclude-spec =

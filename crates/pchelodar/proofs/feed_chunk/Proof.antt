@@ -11,8 +11,8 @@ use Rattle.engine.proofs.Keeping.{tables-same, tables-then}
 use Rattle.session.specs.Contracts.{held}
 use Rattle.session.specs.Whole.{Carries}
 use Rattle.session.proofs.Composing.{carries-none, carries-next, carries-all, limit-stopped}
-use Rattle.pchelodar.specs.Contracts.{afterWrite}
-use Rattle.pchelodar.proofs.Composing.{chunk-fed, went-on, stopped}
+use Rattle.pchelodar.specs.Contracts.{afterWrite, afterFeed}
+use Rattle.pchelodar.proofs.Composing.{chunk-fed, went-on, stopped, told-after, told-feed}
 use Rattle.pchelodar.proofs.feed_chunk.Statement.{statement}
 use Rattle.pchelodar.proofs.feed_chunk.Tie as tie
 
@@ -100,10 +100,12 @@ returns c =
     let at-feed = at-said .before .before .before .before .before .before .before .before .before .before .before .before .before .before in
     let at-loop = at-feed .before .before .before .before .before .before .before .before .before in
     let at-start = at-loop .before .before .before .before .before .before in
-    stopped (at-start .args .chunk .now) (at-said .write-all .result) _ _ (at-write .after-write .result)
-    (at-write .after-write .ensures ∙ ap (afterWrite (at-said .write-all .result)) (at-next .after-feed .ensures)) (c .match .keys2)
-    (λ still.
-    limit-stopped (omega (arith, at-start .pre, at-loop .loop .inv .1)) (at-feed .before .before .before .before .before .before .before .before .loop-test .taken) still (at-loop .loop .inv .3) (at-feed .feed .ensures))
+    let told = at-write .after-write .ensures ∙ ap (afterWrite (at-said .write-all .result)) (at-next .after-feed .ensures) in (
+      stopped (at-start .args .chunk .now) (at-said .write-all .result) (at-loop .loop .from) (at-feed .feed .result .to) (at-write .after-write .result) told (c .match .keys2)
+          (λ still.
+          limit-stopped (omega (arith, at-start .pre, at-loop .loop .inv .1)) (at-feed .before .before .before .before .before .before .before .before .loop-test .taken) still (at-loop .loop .inv .3) (at-feed .feed .ensures)),
+      told-after (at-said .write-all .result) (afterFeed (at-loop .loop .from) (at-feed .feed .result .to)) (at-write .after-write .result) (told-feed (at-loop .loop .from) (at-feed .feed .result .to)) told,
+    )
 
 loop-less : tie.Need-loop-less Inv-loop μ-loop
 loop-less c =
@@ -148,7 +150,7 @@ same-length-14 c = c .before .loop .inv .1
 returns-2 : tie.Need-returns-2 Inv-loop μ-loop
 returns-2 c =
     let at-start = c .before .before .before .before .before .before .before in
-    chunk-fed (carries-all (at-start .args .chunk .now) _ (c .loop-test .left) (c .before .loop .inv .3))
+    (chunk-fed (carries-all (at-start .args .chunk .now) _ (c .loop-test .left) (c .before .loop .inv .3)), refl)
 
 pub feed-chunk-spec : {M : Type 1} → statement M
 feed-chunk-spec =

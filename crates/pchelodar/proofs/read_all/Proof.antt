@@ -52,7 +52,7 @@ loop-again c =
     let at-after = c .before .before .before .before .before .before .before .before .before .before .before .before .before .before in
     let at-read = at-after .before .before .before .before .before .before .before .before .before .before .before in
     let at-loop = at-read .before .before .before in
-    (at-after .after-read .kept .1 .1 .0 ∙ at-loop .loop .inv .0, at-after .after-read .kept .1 .1 .1 .0 ∙ at-loop .loop .inv .1, at-after .after-read .kept .1 .1 .1 .1 .0 ∙ at-loop .loop .inv .2, at-after .after-read .kept .1 .1 .1 .1 .1 .0 ∙ at-loop .loop .inv .3, at-after .after-read .kept .1 .1 .1 .1 .1 .1 .0 ∙ at-loop .loop .inv .4, at-after .after-read .kept .1 .1 .1 .1 .1 .1 .1 .0 ∙ at-loop .loop .inv .5, at-read .read .kept .1 .0 ∙ at-loop .loop .inv .6, at-after .after-read .kept .1 .1 .1 .1 .1 .1 .1 .1 .1 .0 ∙ at-loop .loop .inv .7, omega (arith, at-loop .loop .inv .8), read-more _ _ (omega (arith, at-loop .loop .inv .8)) (c .enum-told .given .1) (at-loop .loop .inv .9) (at-after .after-read .ensures))
+    (at-after .after-read .kept .1 .1 .0 ∙ at-loop .loop .inv .0, at-after .after-read .kept .1 .1 .1 .0 ∙ at-loop .loop .inv .1, at-after .after-read .kept .1 .1 .1 .1 .0 ∙ at-loop .loop .inv .2, at-after .after-read .kept .1 .1 .1 .1 .1 .0 ∙ at-loop .loop .inv .3, at-after .after-read .kept .1 .1 .1 .1 .1 .1 .0 ∙ at-loop .loop .inv .4, at-after .after-read .kept .1 .1 .1 .1 .1 .1 .1 .0 ∙ at-loop .loop .inv .5, at-read .read .kept .1 .0 ∙ at-loop .loop .inv .6, at-after .after-read .kept .1 .1 .1 .1 .1 .1 .1 .1 .1 .0 ∙ at-loop .loop .inv .7, omega (arith, at-loop .loop .inv .8), read-more _ _ (omega (arith, at-loop .loop .inv .8)) (c .enum-told .given .1) (at-loop .loop .inv .9) (at-after .after-read .ensures .0))
 
 same-length : tie.Need-same-length Inv-loop μ-loop
 same-length c =
@@ -115,7 +115,8 @@ returns c =
     let at-after = c .before .before .before .before .before .before .before .before .before .before .before .before .before in
     let at-read = at-after .before .before .before .before .before .before .before .before .before .before .before in
     let at-loop = at-read .before .before .before in
-    read-last _ _ (at-after .after-read .result .progress) (c .match .keys2) (at-loop .loop .inv .9) (at-after .after-read .ensures)
+    let last = read-last _ _ (at-after .after-read .result .progress) (c .match .keys2) (at-loop .loop .inv .9) (at-after .after-read .ensures .0) in
+    (last .0, (last .1, at-after .after-read .ensures .1))
 
 same-length-9 : tie.Need-same-length-9 Inv-loop μ-loop
 same-length-9 c = c .before .loop .inv .0
@@ -142,7 +143,7 @@ same-length-16 : tie.Need-same-length-16 Inv-loop μ-loop
 same-length-16 c = c .before .loop .inv .7
 
 returns-2 : tie.Need-returns-2 Inv-loop μ-loop
-returns-2 c = reads-spent (omega (arith, c .loop-test .left)) (c .before .loop .inv .9)
+returns-2 c = (reads-spent (omega (arith, c .loop-test .left)) (c .before .loop .inv .9), (tt, refl))
 
 pub read-all-spec : {M : Type 1} → statement M
 read-all-spec =

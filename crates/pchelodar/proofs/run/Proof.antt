@@ -75,7 +75,10 @@ returns c =
     let at-read-all = at-conclude .before .before .before .before .before .before .before .before .before .before .before .before .before .before .before .before .before .before .before .before .before in
     let at-open = at-read-all .before .before .before .before .before .before .before .before .before .before .before .before .before .before .before .before .before .before in
     let at-start = at-open .before .before .before .before .before .before .before .before .before .before .before .before in
-    at-conclude .conclude .ensures _ (all-handed _ (at-read-all .read-all .result .progress) (reached-first (at-start .pre .0) (at-open .«open» .ensures)) (at-read-all .read-all .ensures))
+    let read = at-read-all .read-all .ensures in (
+      at-conclude .conclude .ensures .0 _ (all-handed _ (at-read-all .read-all .result .progress) _ (reached-first (at-start .pre .0) (at-open .«open» .ensures)) (read .0) (read .1 .0)),
+      at-conclude .conclude .ensures .1 (read .1 .1),
+    )
 
 pub run-spec : {M : Type 1} → statement M
 run-spec =
