@@ -4,7 +4,7 @@ mod printed;
 mod script;
 mod show;
 
-use crate::printed::Held;
+use crate::printed::ByValue;
 use crate::script::CASES;
 use crate::script::Call;
 use crate::script::MOST_CALLS;
@@ -17,7 +17,7 @@ use window::query::Count;
 
 // A reading with an answer table of so many places.
 fn reading_into(
-    held: Held,
+    held: ByValue,
     starts: &mut [Count],
     sums: &mut [i64],
     max_starts: &mut [Count],
@@ -27,7 +27,7 @@ fn reading_into(
     answers: &mut [i64],
     places: usize,
     value: i32,
-) -> Held {
+) -> ByValue {
     if answers.len() < places {
         return held;
     }
@@ -46,7 +46,7 @@ fn reading_into(
 
 // A start, a withdrawal or totals: a call with neither a query nor a reading.
 fn perform_plain(
-    held: Held,
+    held: ByValue,
     call: Call,
     starts: &mut [Count],
     sums: &mut [i64],
@@ -54,7 +54,7 @@ fn perform_plain(
     max_values: &mut [i32],
     min_starts: &mut [Count],
     min_values: &mut [i32],
-) -> Held {
+) -> ByValue {
     match call {
         Call::Start => printed::start(
             held,
@@ -90,7 +90,7 @@ fn perform_plain(
 
 // One call is made, and printed on a line with what it returned.
 fn perform(
-    held: Held,
+    held: ByValue,
     call: Call,
     starts: &mut [Count],
     sums: &mut [i64],
@@ -99,7 +99,7 @@ fn perform(
     min_starts: &mut [Count],
     min_values: &mut [i32],
     answers: &mut [i64],
-) -> Held {
+) -> ByValue {
     match call {
         Call::Register(number, kind, range, slide) => printed::register(
             held,
@@ -141,7 +141,7 @@ fn perform(
 
 // The calls of one list, up to its end.
 fn play(
-    held: Held,
+    held: ByValue,
     case: usize,
     starts: &mut [Count],
     sums: &mut [i64],
@@ -150,7 +150,7 @@ fn play(
     min_starts: &mut [Count],
     min_values: &mut [i32],
     answers: &mut [i64],
-) -> Held {
+) -> ByValue {
     let mut now = held;
     let mut i = 0;
     while i < MOST_CALLS {
@@ -185,7 +185,7 @@ fn main() {
     let mut answers = [0i64; PLACES];
     let state = State::fresh();
     let queries = Queries::empty();
-    let mut held = Held { state, queries };
+    let mut held = ByValue { state, queries };
     let mut case = 0;
     while case < CASES {
         if 0 < case {

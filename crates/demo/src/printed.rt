@@ -9,7 +9,7 @@ use window::query::Count;
 use window::refusal::Verdict;
 
 // What goes from call to call by value.
-pub struct Held {
+pub struct ByValue {
     pub state: State,
     pub queries: Queries,
 }
@@ -24,14 +24,14 @@ fn show_verdict(verdict: Verdict) {
 
 // A start is made and printed.
 pub fn start(
-    held: Held,
+    held: ByValue,
     starts: &mut [Count],
     sums: &mut [i64],
     max_starts: &mut [Count],
     max_values: &mut [i32],
     min_starts: &mut [Count],
     min_values: &mut [i32],
-) -> Held {
+) -> ByValue {
     show::text(b"start ->");
     let state = held.state;
     let queries = held.queries;
@@ -50,12 +50,12 @@ pub fn start(
     show::line();
     let state = reply.state;
     let queries = reply.queries;
-    Held { state, queries }
+    ByValue { state, queries }
 }
 
 // A registration is made and printed: number, kind, range and slide, then what it came to.
 pub fn register(
-    held: Held,
+    held: ByValue,
     starts: &mut [Count],
     sums: &mut [i64],
     max_starts: &mut [Count],
@@ -66,7 +66,7 @@ pub fn register(
     kind: u32,
     range: u32,
     slide: u32,
-) -> Held {
+) -> ByValue {
     show::text(b"register");
     show::number(number as u64);
     show::number(kind as u64);
@@ -94,12 +94,12 @@ pub fn register(
     show::line();
     let state = reply.state;
     let queries = reply.queries;
-    Held { state, queries }
+    ByValue { state, queries }
 }
 
 // A withdrawal is made and printed: the number, then what it came to.
 pub fn withdraw(
-    held: Held,
+    held: ByValue,
     starts: &[Count],
     sums: &[i64],
     max_starts: &[Count],
@@ -107,7 +107,7 @@ pub fn withdraw(
     min_starts: &[Count],
     min_values: &[i32],
     number: u32,
-) -> Held {
+) -> ByValue {
     show::text(b"withdraw");
     show::number(number as u64);
     show::text(b" ->");
@@ -129,13 +129,13 @@ pub fn withdraw(
     show::line();
     let state = reply.state;
     let queries = reply.queries;
-    Held { state, queries }
+    ByValue { state, queries }
 }
 
 // A reading is taken and printed: the value, the length of the answer table where it is not the usual one, then how
 // many answers there are, and each of them.
 pub fn reading(
-    held: Held,
+    held: ByValue,
     starts: &mut [Count],
     sums: &mut [i64],
     max_starts: &mut [Count],
@@ -144,7 +144,7 @@ pub fn reading(
     min_values: &mut [i32],
     answers: &mut [i64],
     value: i32,
-) -> Held {
+) -> ByValue {
     show::text(b"reading");
     show::value(value);
     if answers.len() != PLACES {
@@ -175,19 +175,19 @@ pub fn reading(
     }
     show::line();
     let state = reply.state;
-    Held { state, queries }
+    ByValue { state, queries }
 }
 
 // Totals are asked for and printed: n, P, M and N.
 pub fn totals(
-    held: Held,
+    held: ByValue,
     starts: &[Count],
     sums: &[i64],
     max_starts: &[Count],
     max_values: &[i32],
     min_starts: &[Count],
     min_values: &[i32],
-) -> Held {
+) -> ByValue {
     show::text(b"totals ->");
     let state = held.state;
     let queries = held.queries;

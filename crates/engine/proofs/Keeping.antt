@@ -4,16 +4,17 @@ use mathlib.Core.Path.{_≡_, refl, sym, subst, _∙_}
 use mathlib.Core.Bool.{Bool, true, false}
 use mathlib.Core.List.{List}
 use Prim.Native.Nat.{ℕ}
+use Rattle.deque.specs.Rings.{capacity}
 use Rattle.engine.specs.declared.partial.Open.{Open}
 use Rattle.engine.specs.declared.partial.Open.the-variants.{Nothing, Empty, Holding}
 use Rattle.engine.specs.declared.state.State.{State}
-use Rattle.engine.specs.Tables.{Tables, tablesLong, Kept, TablesKept}
+use Rattle.engine.specs.Tables.{Tables, tablesLong, KeptBeyond, TablesKept}
 use Rattle.engine.specs.Closings.{OpenClosed, ClosedWhere}
 
 -- ---- tables that are kept
 
 -- what does not change is kept
-kept-same : {A : Type 0} (t : List A) → Kept t t
+kept-same : {A : Type 0} (t : List A) → KeptBeyond capacity t t
 kept-same t = record { asLong = refl; beyond = refl }
 
 -- so are tables
@@ -29,7 +30,7 @@ tables-same t =
     }
 
 -- what is kept twice is kept
-kept-then : {A : Type 0} {a b c : List A} → Kept a b → Kept b c → Kept a c
+kept-then : {A : Type 0} {a b c : List A} → KeptBeyond capacity a b → KeptBeyond capacity b c → KeptBeyond capacity a c
 kept-then p q = record { asLong = q .asLong ∙ p .asLong; beyond = q .beyond ∙ p .beyond }
 
 -- so are tables

@@ -19,7 +19,8 @@ use Rattle.engine.specs.Contracts.{Ensures, ReadingEnsures, StartEnsures
 -- ---- calls on a machine, and on whatever else a caller holds (`M`)
 
 -- a reading is given an answer table of so many places, with any content; its answers are read from the places as it
--- leaves them. `promised` says what it promises
+-- leaves them. `promised` says what it promises; what it comes to, as one equation, stands at `placesAfter`
+-- (`specs/Contracts.antt`)
 pub record Reads {M : Type 0} (promised : ℤ → List ℤ → List ℤ → M → Outcome → M → Type 0) (v : ℤ) (places : ℕ) (m : M) (o : Outcome) (m′ : M) : Type 0 where
   pub before : List ℤ
   pub after : List ℤ
@@ -30,8 +31,9 @@ pub record Reads {M : Type 0} (promised : ℤ → List ℤ → List ℤ → M �
 
 -- a list of calls, each on what the call before left, with the outcome of each. `performs` says what one call promises.
 -- For every list of calls whose numbers are of the types that the functions take, and all answer tables, there is such
--- a run from every fresh engine: each of the five functions is proved to return on every input, with no `requires`, and
--- what it returns and leaves meets its contract, which is what `performs` says; so the functions' own returns make one.
+-- a run from every fresh engine whose state and tables hold numbers of their types: each of the five functions is
+-- proved to return on every input, with no `requires`, and what it returns and leaves meets its contract, which is what
+-- `performs` says; so the functions' own returns make one.
 -- (That is read off the proofs of the functions; it is no law stated here.) The claim below speaks of every run, and so
 -- of those that the functions make
 pub data Performed {M : Type 0} (performs : Call → M → Outcome → M → Type 0) : M → List Call → List Outcome → M → Type 0 where

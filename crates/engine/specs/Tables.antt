@@ -7,7 +7,7 @@ use mathlib.Core.List.{List, _++_}
 use lib.Dec.{leb}
 use lib.IntN.{ℤ}
 use lib.ListN.{length, replicate, drop}
-use Rattle.deque.specs.Rings.{capacity, BeyondKept}
+use Rattle.deque.specs.Rings.{capacity}
 
 -- the six tables, as lists
 pub record Tables : Type 0 where
@@ -38,16 +38,16 @@ tablesLong t =
 abbrev pub zeroed : {A : Type 0} → A → List A → List A
 zeroed nought t = replicate capacity nought ++ drop capacity t
 
--- a table is as long as it was, and beyond its first 4,096 places it is as it was
-pub record Kept {A : Type 0} (before after : List A) : Type 0 where
+-- a slice is as long as it was, and beyond its first k places it is as it was
+pub record KeptBeyond {A : Type 0} (k : ℕ) (before after : List A) : Type 0 where
   pub asLong : length after ≡ length before
-  pub beyond : BeyondKept before after
+  pub beyond : drop k after ≡ drop k before
 
--- each of the six is
+-- each of the six is kept beyond its first 4,096 places
 pub record TablesKept (before after : Tables) : Type 0 where
-  pub starts : Kept (before .starts) (after .starts)
-  pub sums : Kept (before .sums) (after .sums)
-  pub maxStarts : Kept (before .maxStarts) (after .maxStarts)
-  pub maxValues : Kept (before .maxValues) (after .maxValues)
-  pub minStarts : Kept (before .minStarts) (after .minStarts)
-  pub minValues : Kept (before .minValues) (after .minValues)
+  pub starts : KeptBeyond capacity (before .starts) (after .starts)
+  pub sums : KeptBeyond capacity (before .sums) (after .sums)
+  pub maxStarts : KeptBeyond capacity (before .maxStarts) (after .maxStarts)
+  pub maxValues : KeptBeyond capacity (before .maxValues) (after .maxValues)
+  pub minStarts : KeptBeyond capacity (before .minStarts) (after .minStarts)
+  pub minValues : KeptBeyond capacity (before .minValues) (after .minValues)

@@ -14,13 +14,13 @@ use Rattle.window.specs.Calls.{Outcome, accepted, refused}
 use Rattle.registry.specs.Records.{recordLimit}
 use Rattle.records.specs.LentList.{firstRecords, overwritten}
 use Rattle.engine.specs.Tables as tables
-use Rattle.engine.specs.Tables.{Tables}
+use Rattle.engine.specs.Tables.{Tables, KeptBeyond}
 use Rattle.engine.specs.Machine.{Machine}
 use Rattle.engine.specs.Contracts.{Promise}
 use Rattle.engine.proofs.Steady.{Steady}
 use Rattle.lent.specs.declared.held.Engine.{Engine}
 use Rattle.lent.specs.Lent.{lent, lentLong, machineWith}
-use Rattle.lent.specs.Contracts.{ListKept, OnLent}
+use Rattle.lent.specs.Contracts.{OnLent}
 use Rattle.lent.specs.Copied.{recordsWritten, Copied, tooShort, performed}
 use Rattle.records.proofs.Lists.{first-long, overwritten-length, overwritten-first, overwritten-rest}
 
@@ -43,7 +43,7 @@ enough (tooShort l) h = absurd (omega arith)
 enough (performed l p) h = p
 
 -- a list with records in its first 32 places
-stored : (list xs : List Query) → length list ≡ recordLimit → ListKept xs (overwritten list xs) × (recordLimit ≤ length xs → take recordLimit (overwritten list xs) ≡ list)
+stored : (list xs : List Query) → length list ≡ recordLimit → KeptBeyond recordLimit xs (overwritten list xs) × (recordLimit ≤ length xs → take recordLimit (overwritten list xs) ≡ list)
 stored list xs n = (
   record {
     asLong = overwritten-length list xs;
@@ -56,7 +56,7 @@ stored list xs n = (
 -- records
 on-lent : (promise : Promise) → Steady promise → (e e′ : Engine) (xs list list′ zs : List Query) (t t′ : Tables) (o : Outcome)
     → list ≡ firstRecords xs → Copied promise (length xs) e list t o e′ list′ t′
-    → ListKept xs zs → ((k : ℕ) → o ≡ refused k → zs ≡ xs) → (recordLimit ≤ length xs → take recordLimit zs ≡ list′)
+    → KeptBeyond recordLimit xs zs → ((k : ℕ) → o ≡ refused k → zs ≡ xs) → (recordLimit ≤ length xs → take recordLimit zs ≡ list′)
     → OnLent promise (lent e xs t) o (lent e′ zs t′)
 on-lent promise steady e e′ xs list list′ zs t t′ o same c kept alone put =
     record {

@@ -6,17 +6,11 @@ use mathlib.Core.Path.{_≡_}
 use mathlib.Core.Bool.{true, false}
 use mathlib.Core.List.{List}
 use lib.IntN.{ℤ}
-use lib.ListN.{length, drop}
-use Rattle.window.specs.declared.query.Query.{Query}
 use Rattle.window.specs.Calls.{Outcome, refused}
 use Rattle.registry.specs.Records.{recordLimit}
+use Rattle.engine.specs.Tables.{KeptBeyond}
 use Rattle.engine.specs.Contracts.{Promise, ReadingEnsures, placesAfter}
 use Rattle.lent.specs.Lent.{Lent, listLong, lentLong, lentMachine}
-
--- the list is as long as it was, and beyond its first 32 records it is as it was
-pub record ListKept (before after : List Query) : Type 0 where
-  pub asLong : length after ≡ length before
-  pub beyond : drop recordLimit after ≡ drop recordLimit before
 
 -- a call on m came to o and left m′
 pub record OnLent (promise : Promise) (m : Lent) (o : Outcome) (m′ : Lent) : Type 0 where
@@ -27,7 +21,7 @@ pub record OnLent (promise : Promise) (m : Lent) (o : Outcome) (m′ : Lent) : T
   -- a refused call changes nothing: what goes by value, every record, every table
   pub unchanged : (k : ℕ) → o ≡ refused k → m′ ≡ m
   -- no record beyond the first 32 is written
-  pub kept : ListKept (m .records) (m′ .records)
+  pub kept : KeptBeyond recordLimit (m .records) (m′ .records)
 
 -- the reading v, with an answer table that held `before` and holds `after`
 pub record ReadingOnLent (v : ℤ) (before after : List ℤ) (m : Lent) (o : Outcome) (m′ : Lent) : Type 0 where

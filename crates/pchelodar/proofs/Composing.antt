@@ -21,7 +21,7 @@ use Rattle.session.proofs.Composing.{carries-nothing, carries-then, limit-many,
 use Rattle.pchelodar.specs.declared.Progress.{Progress}
 use Rattle.pchelodar.specs.declared.Progress.the-variants as progress
 use Rattle.pchelodar.proofs.Progress.{the-type}
-use Rattle.pchelodar.specs.Contracts.{Told, afterWrite, afterFeed, ChunkFed, Read, readOf, size, brought, Failed, Ended, AfterRead, Intake, none, next, ReadsFed, SomeFed, Heard, AllRead, ReachedUntil, Handed, RanReads, Concluded, WholeRun}
+use Rattle.pchelodar.specs.Contracts.{Told, afterWrite, afterFeed, ChunkFed, Read, readOf, size, brought, Failed, FoundEnd, AfterRead, Intake, none, next, ReadsFed, SomeFed, Heard, AllRead, ReachedReads, Handed, afterReads, RanReads, Concluded, WholeRun}
 
 -- ---- what a write said
 
@@ -115,7 +115,7 @@ reads-none h = record { bytes = []; reads = none; carries = carries-nothing h }
 -- the three things that a read may come to
 data Came (r : Read) : Type 0 where
   failing : Failed r → Came r
-  ending : Ended r → Came r
+  ending : FoundEnd r → Came r
   bringing : 0 < size r → Came r
 
 came : (r : Read) → Came r
@@ -176,22 +176,22 @@ reads-spent l fed = limit-many (omega (arith, l, reads-many (fed .reads))) (fed 
 -- ---- the whole run
 
 -- all input, from the opening on
-pub all-handed : {lent : Tables} {h : Held} (h′ : Held) (p : Progress) (last : Read) → Reached lent [] h → AllRead h h′ p → Heard p last → Handed lent h′ p
+pub all-handed : {lent : Tables} {h : Held} (h′ : Held) (p : Progress) → Reached lent [] h → AllRead h h′ p → Handed lent h′ p
 unfolding AllRead Handed
-all-handed {lent} {h} h′ p last first = go p
+all-handed {lent} {h} h′ p first = go p
   where
-    from : {End : Read → Type 0} → SomeFed h h′ → End last → ReachedUntil End lent h′
-    from f e = record { number = f .number; bytes = f .fed .bytes; reads = f .fed .reads; last = last; ends = e; reached = f .fed .carries .on lent [] first }
+    from : SomeFed h h′ → ReachedReads lent h′
+    from f = record { number = f .number; bytes = f .fed .bytes; reads = f .fed .reads; reached = f .fed .carries .on lent [] first }
 
-    go : (q : Progress) → AllRead h h′ q → Heard q last → Handed lent h′ q
-    go progress.Onward r e = r
-    go progress.InputEnded r e = from r e
-    go progress.ReadFailed r e = from r e
-    go progress.WriteFailed r e = tt
-    go progress.TooLong r e = r .on lent [] first
+    go : (q : Progress) → AllRead h h′ q → Handed lent h′ q
+    go progress.Onward r = r
+    go progress.InputEnded r = from r
+    go progress.ReadFailed r = from r
+    go progress.WriteFailed r = tt
+    go progress.TooLong r = r .on lent [] first
 
 -- where the input ended, it was fed
-pub handed-ended : (lent : Tables) (h : Held) {p : Progress} → p ≡ progress.InputEnded → Handed lent h p → ReachedUntil Ended lent h
+pub handed-ended : (lent : Tables) (h : Held) {p : Progress} → p ≡ progress.InputEnded → Handed lent h p → ReachedReads lent h
 unfolding Handed
 handed-ended lent h e p = subst (Handed lent h) e p
 
@@ -200,18 +200,43 @@ pub not-ended : (lent : Tables) (h : Held) (new : List ℕ) (p : Progress) → O
 unfolding Handed Concluded
 not-ended lent h new progress.Onward k handed = handed
 not-ended lent h new progress.InputEnded k handed = absurd (miss (0 ∷ 2 ∷ 3 ∷ 4 ∷ []) 1 tt k)
-not-ended lent h new progress.ReadFailed k handed = record { last = h; fed = handed; leaves = refl }
+not-ended lent h new progress.ReadFailed k handed = record { last = h; broken = handed; leaves = refl }
 not-ended lent h new progress.WriteFailed k handed = tt
-not-ended lent h new progress.TooLong k handed = record { last = h; fed = handed; leaves = refl }
+not-ended lent h new progress.TooLong k handed = record { last = h; broken = handed; leaves = refl }
+
+-- and its end stays as it is
+pub end-stays : (p : Progress) (said : Bool) → OneOf (0 ∷ 2 ∷ 3 ∷ 4 ∷ []) (tagOf the-type p) → p ≡ afterReads p said
+end-stays progress.Onward said k = refl
+end-stays progress.InputEnded said k = absurd (miss (0 ∷ 2 ∷ 3 ∷ 4 ∷ []) 1 tt k)
+end-stays progress.ReadFailed said k = refl
+end-stays progress.WriteFailed said k = refl
+end-stays progress.TooLong said k = refl
+
+-- where it ended, the last write decides
+pub end-written : (said : Bool) (p q : Progress) → p ≡ progress.InputEnded → q ≡ afterWrite said progress.InputEnded → q ≡ afterReads p said
+end-written said p q e w = subst (λ (x : Progress). q ≡ afterReads x said) (sym e) w
+
+-- the last read is heard in the run's end
+pub heard-after : (p q : Progress) (said : Bool) (got got′ : ℤ) (buffer : List ℕ) → q ≡ afterReads p said → got′ ≡ got → Heard p (readOf got buffer) → Heard q (readOf got′ buffer)
+heard-after p q said got got′ buffer e same heard =
+    subst (λ (z : ℤ). Heard q (readOf z buffer)) (sym same) (subst (λ (x : Progress). Heard x (readOf got buffer)) (sym e) (go p said heard))
+  where
+    go : (x : Progress) (s : Bool) → Heard x (readOf got buffer) → Heard (afterReads x s) (readOf got buffer)
+    go progress.Onward s h = h
+    go progress.InputEnded true h = h
+    go progress.InputEnded false h = tt
+    go progress.ReadFailed s h = h
+    go progress.WriteFailed s h = h
+    go progress.TooLong s h = h
 
 -- a session whole, where the last write did not fail
-pub concluded : (said : Bool) {lent left : Tables} {h : Held} {new : List ℕ} (p : Progress) → p ≡ afterWrite said progress.InputEnded → (u : ReachedUntil Ended lent h)
+pub concluded : (said : Bool) {lent left : Tables} {h : Held} {new : List ℕ} (p : Progress) → p ≡ afterWrite said progress.InputEnded → (u : ReachedReads lent h)
     → RanAll (u .bytes) lent left new → Concluded lent left new p
 unfolding Concluded
 concluded said {lent} {left} {h} {new} p e u ran = subst (Concluded lent left new) (sym e) (go said)
   where
     go : (s : Bool) → Concluded lent left new (afterWrite s progress.InputEnded)
-    go true = record { number = u .number; bytes = u .bytes; reads = u .reads; last = u .last; ended = u .ends; ran = ran }
+    go true = record { number = u .number; bytes = u .bytes; reads = u .reads; ran = ran }
     go false = tt
 
 -- the claim about a run to its end

@@ -69,20 +69,22 @@ brought r = take (size r) (r .buffer)
 abbrev pub Failed : Read → Type 0
 Failed r = ltZ (r .got) (pos 0) ≡ true
 
--- the input ended: it did not fail, and brought no byte
-abbrev pub Ended : Read → Type 0
-Ended r = (ltZ (r .got) (pos 0) ≡ false) × (size r ≡ 0)
+-- it found the end of the input: it did not fail, and brought no byte
+abbrev pub FoundEnd : Read → Type 0
+FoundEnd r = (ltZ (r .got) (pos 0) ≡ false) × (size r ≡ 0)
 
--- after_read, by what the read came to: where it failed or the input ended, the run ends so and nothing changes; else
--- just the bytes that it brought are fed
+-- after_read, by what the read came to: where it failed or found the end of the input, the run ends so and nothing
+-- changes; else just the bytes that it brought are fed
 pub record AfterRead (r : Read) (h h′ : Held) (p : Progress) : Type 0 where
   pub failed : Failed r → (p ≡ progress.ReadFailed) × (h′ ≡ h)
-  pub ended : Ended r → (p ≡ progress.InputEnded) × (h′ ≡ h)
+  pub ended : FoundEnd r → (p ≡ progress.InputEnded) × (h′ ≡ h)
   pub some : 0 < size r → ChunkFed (brought r) h h′ p
 
 -- ---- all reads
 
--- so many reads, one after the other, each of which brought a byte or more: all bytes that they brought, in order
+-- so many reads, one after the other, each of which brought a byte or more: all bytes that they brought, in order. Which
+-- reads they were no contract can say, since that of `read` does not: that they are those of standard input, one after
+-- the other, is read off `read_all`
 pub data Intake : ℕ → List ℕ → Type 0 where
   none : Intake 0 []
   next : {n : ℕ} {bytes : List ℕ} → Intake n bytes → (r : Read) → 0 < size r → Intake (n + 1) (bytes ++ brought r)
@@ -101,7 +103,7 @@ pub record SomeFed (h h′ : Held) : Type 0 where
 -- a run ended as its last read says: it failed, or found the input ended
 abbrev pub Heard : Progress → Read → Type 0
 Heard progress.Onward r = Unit {0}
-Heard progress.InputEnded r = Ended r
+Heard progress.InputEnded r = FoundEnd r
 Heard progress.ReadFailed r = Failed r
 Heard progress.WriteFailed r = Unit {0}
 Heard progress.TooLong r = Unit {0}
@@ -115,39 +117,44 @@ AllRead h h′ progress.ReadFailed = SomeFed h h′
 AllRead h h′ progress.WriteFailed = Unit {0}
 AllRead h h′ progress.TooLong = CarriesLimit h h′
 
--- a session that was opened on these tables and fed all that reads brought, after which one came to an end
-pub record ReachedUntil (End : Read → Type 0) (lent : Tables) (h : Held) : Type 0 where
+-- a session that was opened on these tables and fed all that so many reads brought
+pub record ReachedReads (lent : Tables) (h : Held) : Type 0 where
   pub number : ℕ
   pub bytes : List ℕ
   pub reads : Intake number bytes
-  pub last : Read
-  pub ends : End last
   pub reached : Reached lent bytes h
 
 -- what conclude is handed
 unfoldable pub Handed : Tables → Held → Progress → Type 0
 Handed lent h progress.Onward = ⊥
-Handed lent h progress.InputEnded = ReachedUntil Ended lent h
-Handed lent h progress.ReadFailed = ReachedUntil Failed lent h
+Handed lent h progress.InputEnded = ReachedReads lent h
+Handed lent h progress.ReadFailed = ReachedReads lent h
 Handed lent h progress.WriteFailed = Unit {0}
 Handed lent h progress.TooLong = ReachedLimit lent h
 
 -- ---- the whole run
 
--- a run to its end, which leaves the tables and the output like this: after the reads that brought bytes one found the
--- input ended; the session of all bytes that they brought, opened on these tables, is whole
+-- conclude, by how the reads ended and what the last write said: where the input ended that was the write of the totals,
+-- and any other end stays as it is
+abbrev pub afterReads : Progress → Bool → Progress
+afterReads progress.Onward said = progress.Onward
+afterReads progress.InputEnded said = afterWrite said progress.InputEnded
+afterReads progress.ReadFailed said = progress.ReadFailed
+afterReads progress.WriteFailed said = progress.WriteFailed
+afterReads progress.TooLong said = progress.TooLong
+
+-- a run to its end, which leaves the tables and the output like this: the session of all bytes that the reads brought,
+-- opened on these tables, is whole
 pub record RanReads (lent left : Tables) (new : List ℕ) : Type 0 where
   pub number : ℕ
   pub bytes : List ℕ
   pub reads : Intake number bytes
-  pub last : Read
-  pub ended : Ended last
   pub ran : RanAll bytes lent left new
 
--- a session that was opened on these tables and broken off, and the tables that it left
-pub record BrokenOff (Fed : Held → Type 0) (left : Tables) : Type 0 where
+-- a session that was opened on these tables and broken off where it was like `Broken`, and the tables that it left
+pub record BrokenOff (Broken : Held → Type 0) (left : Tables) : Type 0 where
   pub last : Held
-  pub fed : Fed last
+  pub broken : Broken last
   pub leaves : left ≡ last .tables
 
 -- run: the whole session, or one that was broken off since a read or a write failed, or after 2^64 - 2 bytes. Where a
@@ -155,7 +162,7 @@ pub record BrokenOff (Fed : Held → Type 0) (left : Tables) : Type 0 where
 unfoldable pub Concluded : Tables → Tables → List ℕ → Progress → Type 0
 Concluded lent left new progress.Onward = ⊥
 Concluded lent left new progress.InputEnded = RanReads lent left new
-Concluded lent left new progress.ReadFailed = BrokenOff (ReachedUntil Failed lent) left
+Concluded lent left new progress.ReadFailed = BrokenOff (ReachedReads lent) left
 Concluded lent left new progress.WriteFailed = Unit {0}
 Concluded lent left new progress.TooLong = BrokenOff (ReachedLimit lent) left
 

@@ -12,7 +12,7 @@ ghost use Prim.Native.Nat.{_≤_};
 ghost use lib.ListN.{length};
 ghost use Rattle.engine.specs.Tables.{Tables, tables, tablesLong};
 ghost use Rattle.session.specs.Contracts.{held, finishRoom};
-ghost use Rattle.pchelodar.specs.Contracts.{Told, afterWrite, afterFeed, ChunkFed, readOf, AfterRead, Heard, AllRead, Handed, Concluded};
+ghost use Rattle.pchelodar.specs.Contracts.{Told, afterWrite, afterFeed, ChunkFed, readOf, AfterRead, Heard, AllRead, Handed, afterReads, Concluded};
 
 // How a run goes on, or ended.
 enum Progress {
@@ -23,24 +23,25 @@ enum Progress {
     TooLong,
 }
 
-// What was made of some bytes: the session, how the run goes on, and what the last write said.
-struct Fed {
+// After a chunk: the session, how the run goes on, and what the last write said.
+struct ChunkEnd {
     session: Session,
     progress: Progress,
     said: bool,
 }
 
-// The same of all reads, with what the last of them returned.
-struct Running {
+// After all reads: the same, with what the last of them returned.
+struct ReadsEnd {
     session: Session,
     progress: Progress,
     got: isize,
     said: bool,
 }
 
-// How the run ended, and what the last write said.
-struct Ending {
+// How the run ended, with what the last read returned and the last write said.
+struct RunEnd {
     progress: Progress,
+    got: isize,
     said: bool,
 }
 
@@ -75,7 +76,7 @@ fn feed_chunk(
     min_values: &mut [i32],
     chunk: &[u8],
     out: &mut [u8],
-) -> Fed
+) -> ChunkEnd
     requires { ⌜ finishRoom ≤ length (now out) ⌝ }
     ensures { λ r. ⌜ (ChunkFed (now (chunk .entry))
         (held session (tables (now (starts .entry)) (now (sums .entry)) (now («max_starts» .entry)) (now («max_values» .entry)) (now («min_starts» .entry)) (now («min_values» .entry))))
@@ -103,7 +104,7 @@ fn feed_chunk(
         let progress = after_write(said, after_feed(from, to));
         match progress {
             Progress::Onward => {}
-            _ => return Fed {
+            _ => return ChunkEnd {
                 session: held,
                 progress,
                 said,
@@ -111,7 +112,7 @@ fn feed_chunk(
         }
         from = to;
     }
-    Fed {
+    ChunkEnd {
         session: held,
         progress: Progress::Onward,
         said: true,
@@ -131,14 +132,14 @@ fn after_read(
     min_values: &mut [i32],
     chunk: &[u8],
     out: &mut [u8],
-) -> Fed
+) -> ChunkEnd
     requires { ⌜ finishRoom ≤ length (now out) ⌝ }
     ensures { λ r. ⌜ (AfterRead (readOf got (now (chunk .entry)))
         (held session (tables (now (starts .entry)) (now (sums .entry)) (now («max_starts» .entry)) (now («max_values» .entry)) (now («min_starts» .entry)) (now («min_values» .entry))))
         (held (r .session) (tables (now (starts .exit)) (now (sums .exit)) (now («max_starts» .exit)) (now («max_values» .exit)) (now («min_starts» .exit)) (now («min_values» .exit)))) (r .progress)) × Told (r .progress) (r .said) ⌝ }
 {
     if got < 0 {
-        return Fed {
+        return ChunkEnd {
             session,
             progress: Progress::ReadFailed,
             said: true,
@@ -146,7 +147,7 @@ fn after_read(
     }
     let count = io::count(got, chunk);
     if count == 0 {
-        return Fed {
+        return ChunkEnd {
             session,
             progress: Progress::InputEnded,
             said: true,
@@ -177,7 +178,7 @@ fn read_all(
     min_values: &mut [i32],
     chunk: &mut [u8],
     out: &mut [u8],
-) -> Running
+) -> ReadsEnd
     requires { ⌜ finishRoom ≤ length (now out) ⌝ }
     ensures { λ r. ⌜ (AllRead (held session (tables (now (starts .entry)) (now (sums .entry)) (now («max_starts» .entry)) (now («max_values» .entry)) (now («min_starts» .entry)) (now («min_values» .entry))))
         (held (r .session) (tables (now (starts .exit)) (now (sums .exit)) (now («max_starts» .exit)) (now («max_values» .exit)) (now («min_starts» .exit)) (now («min_values» .exit)))) (r .progress))
@@ -205,7 +206,7 @@ fn read_all(
         let said = next.said;
         match progress {
             Progress::Onward => {}
-            _ => return Running {
+            _ => return ReadsEnd {
                 session: held,
                 progress,
                 got,
@@ -213,7 +214,7 @@ fn read_all(
             },
         }
     }
-    Running {
+    ReadsEnd {
         session: held,
         progress: Progress::TooLong,
         got: 0,
@@ -224,7 +225,7 @@ fn read_all(
 // The end of the input: the totals are printed only where the input was read to its end and all before them was
 // written.
 fn conclude(
-    done: Running,
+    done: ReadsEnd,
     starts: &mut [Count],
     sums: &mut [i64],
     max_starts: &mut [Count],
@@ -232,11 +233,12 @@ fn conclude(
     min_starts: &mut [Count],
     min_values: &mut [i32],
     out: &mut [u8],
-) -> Ending
+) -> RunEnd
     requires { ⌜ finishRoom ≤ length (now out) ⌝ }
-    ensures { λ r. ⌜ (((lent : Tables) → Handed lent (held (done .session) (tables (now (starts .entry)) (now (sums .entry)) (now («max_starts» .entry)) (now («max_values» .entry)) (now («min_starts» .entry)) (now («min_values» .entry)))) (done .progress)
-        → Concluded lent (tables (now (starts .exit)) (now (sums .exit)) (now («max_starts» .exit)) (now («max_values» .exit)) (now («min_starts» .exit)) (now («min_values» .exit))) (now (out .exit)) (r .progress)))
-        × (Told (done .progress) (done .said) → Told (r .progress) (r .said)) ⌝ }
+    ensures { λ r. ⌜ ((r .progress ≡ afterReads (done .progress) (r .said)) × (r .got ≡ done .got))
+        × (((lent : Tables) → Handed lent (held (done .session) (tables (now (starts .entry)) (now (sums .entry)) (now («max_starts» .entry)) (now («max_values» .entry)) (now («min_starts» .entry)) (now («min_values» .entry)))) (done .progress)
+        → Concluded lent (tables (now (starts .exit)) (now (sums .exit)) (now («max_starts» .exit)) (now («max_values» .exit)) (now («min_starts» .exit)) (now («min_values» .exit))) (now (out .exit)) (r .progress))
+        × (Told (done .progress) (done .said) → Told (r .progress) (r .said))) ⌝ }
 {
     let session = done.session;
     let progress = done.progress;
@@ -251,14 +253,16 @@ fn conclude(
             min_values,
             out,
         ),
-        _ => return Ending {
+        _ => return RunEnd {
             progress,
+            got: done.got,
             said: done.said,
         },
     };
     let said = io::write_all(STDOUT_FILENO, &out[..at]);
-    Ending {
+    RunEnd {
         progress: after_write(said, Progress::InputEnded),
+        got: done.got,
         said,
     }
 }
@@ -293,10 +297,10 @@ fn run(
     min_values: &mut [i32],
     chunk: &mut [u8],
     out: &mut [u8],
-) -> Ending
+) -> RunEnd
     requires { ⌜ (tablesLong (tables (now starts) (now sums) (now «max_starts») (now «max_values») (now «min_starts») (now «min_values»)) ≡ true) × (finishRoom ≤ length (now out)) ⌝ }
     ensures { λ r. ⌜ (Concluded (tables (now (starts .entry)) (now (sums .entry)) (now («max_starts» .entry)) (now («max_values» .entry)) (now («min_starts» .entry)) (now («min_values» .entry)))
-        (tables (now (starts .exit)) (now (sums .exit)) (now («max_starts» .exit)) (now («max_values» .exit)) (now («min_starts» .exit)) (now («min_values» .exit))) (now (out .exit)) (r .progress)) × Told (r .progress) (r .said) ⌝ }
+        (tables (now (starts .exit)) (now (sums .exit)) (now («max_starts» .exit)) (now («max_values» .exit)) (now («min_starts» .exit)) (now («min_values» .exit))) (now (out .exit)) (r .progress)) × (Heard (r .progress) (readOf (r .got) (now (chunk .exit))) × Told (r .progress) (r .said)) ⌝ }
 {
     let opened = session::stream::open(
         starts,

@@ -7,13 +7,13 @@ use mathlib.Core.List.{List, [], _∷_, _++_, map}
 use borrow.Author.Tests.{eqb-true}
 use lib.Dec.{eqb}
 use lib.IntN.{ℤ}
-use lib.ListN.{length, replicate}
+use lib.ListN.{length, take, replicate}
 use Rattle.window.specs.declared.query.Query.{Query}
 use Rattle.window.specs.declared.refusal.Refusal.{Refusal}
 use Rattle.window.specs.declared.refusal.Refusal.the-variants.{TableTooShort, Damaged, CountExhausted, AnswersTooShort}
 use Rattle.window.specs.Refusals.{refusalNumber}
 use Rattle.window.specs.Calls.{Call, start, register, withdraw, reading, totals, Outcome, refused}
-use Rattle.window.specs.Model.{initial}
+use Rattle.window.specs.Model.{State, initial}
 use Rattle.window.proofs.Lists.{and-left, and-right}
 use Rattle.registry.specs.Records.{recordLimit, unused, occurs}
 use Rattle.engine.specs.declared.calls.Answered.{Answered}
@@ -25,7 +25,7 @@ use Rattle.engine.specs.Demand3 as below
 use Rattle.engine.specs.Demand3.{Performed}
 use Rattle.engine.proofs.Agreement as engine
 use Rattle.engine.proofs.Carrying.{carried-run}
-use Rattle.pchelodar_c.specs.Written.{numbersIn}
+use Rattle.pchelodar_c.specs.Written.{listNumbers, numbersIn}
 use Rattle.pchelodar_c.specs.Slices.{Slices, roomFor, numbersLong, slicesLong, slicesMachine}
 use Rattle.pchelodar_c.specs.Contracts.{codeOutcome, readingCodeOutcome, totalsCodeOutcome, OnNumbers, ReadingOnNumbers, TotalsOnNumbers}
 use Rattle.pchelodar_c.specs.Demand3.{Returned, ReadingReturned, TotalsReturned, Performs, Fresh, Demand3, FromStart, BoardLive, NeverDamaged, StartZeroes}
@@ -118,12 +118,24 @@ from-below : (fresh : Slices) → Fresh fresh → (calls : List Call) (outcomes 
 from-below fresh f =
     carried-run slicesMachine (λ (m : Slices). numbersLong m ≡ true) Performs performs (f .before) fresh (f .outcome) (and-left (numbersLong (f .before)) _ (f .long)) (and-right (numbersLong (f .before)) _ (f .long)) (f .started)
 
+-- the numbers of the query list, where it is read as the model's
+list-numbers : (s : State) (m : Slices) → numbersLong m ≡ true → ListIs s (slicesMachine m .queries)
+    → take listNumbers (m .queries) ≡ numbersIn (s .queries ++ replicate (recordLimit - length (s .queries)) unused)
+list-numbers s m l i =
+    numbers-are recordLimit (m .queries) (room-list _ (length (m .queries)) l)
+    ∙ ap numbersIn (i .tidy ∙ ap₂ (λ (qs : List Query) (n : ℕ). qs ++ replicate (recordLimit - n) unused) (i .used) (i .count))
+
 -- demand 3
 pub demand-3 : Demand3
 demand-3 fresh f calls outcomes m p =
     let b = from-below fresh f calls outcomes m p in
     let a = engine.demand-3 (slicesMachine fresh) (b .0) calls outcomes (slicesMachine m) (b .1) in
-    record { agrees = a; totalled = λ o m′ e. a .totalled o (slicesMachine m′) (totals-returned m o m′ (b .2) e .0) }
+    let represented = engine.from-start (slicesMachine fresh) (b .0) calls outcomes (slicesMachine m) (b .1) in
+    record {
+      agrees = a;
+      listed = list-numbers _ m (b .2) (represented .queries);
+      totalled = λ o m′ e. a .totalled o (slicesMachine m′) (totals-returned m o m′ (b .2) e .0);
+    }
 
 -- what came from a start represents the model's state
 pub from-start : FromStart
@@ -156,6 +168,4 @@ pub start-zeroes : StartZeroes
 start-zeroes m m′ e =
     let l : slicesLong m ≡ true = accepted-long e in
     let room : numbersLong m ≡ true = and-left (numbersLong m) _ l in
-    let i : ListIs initial (slicesMachine m′ .queries) = (e .promised room .represents (and-right (numbersLong m) _ l)) .queries in
-    numbers-are recordLimit (m′ .queries) (room-list _ (length (m′ .queries)) (still-long e room))
-    ∙ ap numbersIn (i .tidy ∙ ap₂ (λ (qs : List Query) (n : ℕ). qs ++ replicate (recordLimit - n) unused) (i .used) (i .count))
+    list-numbers initial m′ (still-long e room) ((e .promised room .represents (and-right (numbersLong m) _ l)) .queries)

@@ -23,14 +23,14 @@ use Rattle.engine.specs.declared.calls.TotalsReply.{TotalsReply}
 use Rattle.engine.specs.declared.calls.TotalsReply.the-variants as totals
 use Rattle.engine.specs.Answers.{answersIn}
 use Rattle.engine.specs.Tables as tables
-use Rattle.engine.specs.Tables.{Tables}
+use Rattle.engine.specs.Tables.{Tables, KeptBeyond}
 use Rattle.engine.specs.Outcomes as engine
 use Rattle.engine.specs.Machine.{Machine, machine}
 use Rattle.engine.specs.Contracts.{Promise, Ensures, ReadingEnsures, placesAfter}
 use Rattle.engine.proofs.Steady.{Steady, call-steady, reading-steady}
 use Rattle.pchelodar_c.specs.Written.{stateNumbers, listNumbers, stateOf, registeredIn, listOf}
 use Rattle.pchelodar_c.specs.Slices.{Slices, slices, roomFor, numbersLong, slicesLong, slicesMachine}
-use Rattle.pchelodar_c.specs.Contracts.{codeOutcome, readingCodeOutcome, totalsCodeOutcome, KeptBeyond, OnNumbers, ReadingOnNumbers, TotalsOnNumbers}
+use Rattle.pchelodar_c.specs.Contracts.{codeOutcome, readingCodeOutcome, totalsCodeOutcome, OnNumbers, ReadingOnNumbers, TotalsOnNumbers}
 use Rattle.pchelodar_c.specs.PutBack.{PutBack, nothingBack, allBack, ReadingBack, refusedBack, stateBack}
 
 -- ---- room for the numbers

@@ -11,7 +11,7 @@ use Rattle.window.specs.declared.query.Query.{Query}
 use Rattle.registry.specs.Records.{recordLimit, unused}
 use Rattle.engine.specs.declared.state.State.{State}
 use Rattle.pchelodar_c.specs.Written.{stateNumbers, numbersOfState, at, queryNumbers, listNumbers, numbersIn, recordAt, putRecord, recordsIn}
-use Rattle.pchelodar_c.specs.Contracts.{KeptBeyond}
+use Rattle.engine.specs.Tables.{KeptBeyond}
 use Rattle.pchelodar_c.proofs.States.{numbers-eighteen}
 
 -- ---- one place after the other

@@ -6,8 +6,8 @@ use mathlib.Core.Path.{_≡_}
 use mathlib.Core.Bool.{true, false}
 use mathlib.Core.List.{List, [], _∷_}
 use lib.IntN.{ℤ}
-use lib.ListN.{length, drop}
 use Rattle.window.specs.Calls.{Outcome, accepted, refused, totals}
+use Rattle.engine.specs.Tables.{KeptBeyond}
 use Rattle.engine.specs.Answers.{answersIn}
 use Rattle.engine.specs.Contracts.{Promise, Ensures, ReadingEnsures, placesAfter}
 use Rattle.pchelodar_c.specs.Written.{stateNumbers, listNumbers}
@@ -32,11 +32,6 @@ totalsCodeOutcome zero four = accepted four []
 totalsCodeOutcome (suc k) four = refused (suc k)
 
 -- ---- the promises
-
--- a slice is as long as it was, and beyond its first k places it is as it was
-pub record KeptBeyond (k : ℕ) (before after : List ℕ) : Type 0 where
-  pub asLong : length after ≡ length before
-  pub beyond : drop k after ≡ drop k before
 
 -- a call on m came to o and left m′
 pub record OnNumbers (promise : Promise) (m : Slices) (o : Outcome) (m′ : Slices) : Type 0 where

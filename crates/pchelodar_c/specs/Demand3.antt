@@ -2,22 +2,24 @@
 --
 -- For every list of calls whose numbers are of the types that the functions take there is a run: each of the five
 -- functions is proved to return on every input, and what it returns and leaves meets its contract, which gives
--- `Performs` (`returned-performs`, `reading-performs`, `totals-performs`). So from every fresh one `Performed` has a
--- run for every such list of calls and all answer tables.
+-- `Performs` (`returned-performs`, `reading-performs`, `totals-performs`). So from every fresh one whose places hold
+-- numbers of their types `Performed` has a run for every such list of calls and all answer tables. (That the functions
+-- return is read off their proofs; it is no law stated here.)
 -- Assumes nothing.
-use Prim.Native.Nat.{ℕ, _≤_}
+use Prim.Native.Nat.{ℕ, _-_, _≤_}
 use mathlib.Core.Path.{_≡_}
 use mathlib.Core.Bool.{true}
-use mathlib.Core.List.{List}
+use mathlib.Core.List.{List, _++_}
 use lib.IntN.{ℤ}
 use lib.ListN.{length, take, replicate}
 use Rattle.window.specs.Calls.{Call, start, register, withdraw, reading, totals, Outcome, refused}
 use Rattle.window.specs.Model.{initial, totalsOf, Ran, run, reached}
+use Rattle.registry.specs.Records.{recordLimit, unused}
 use Rattle.engine.specs.Machine.{HoldsLive, Represents}
 use Rattle.engine.specs.Contracts.{Promise, Ensures, StartEnsures}
 use Rattle.engine.specs.Demand3 as below
 use Rattle.engine.specs.Demand3.{Performed}
-use Rattle.pchelodar_c.specs.Written.{listNumbers}
+use Rattle.pchelodar_c.specs.Written.{listNumbers, numbersIn}
 use Rattle.pchelodar_c.specs.Slices.{Slices, slicesLong, slicesMachine}
 use Rattle.pchelodar_c.specs.Contracts.{codeOutcome, readingCodeOutcome, totalsCodeOutcome, OnNumbers, ReadingOnNumbers, TotalsOnNumbers}
 
@@ -74,6 +76,8 @@ pub record AgreesWith (r : Ran) (os : List Outcome) (m : Slices) : Type 0 where
   -- for each call: acceptance or refusal, numbers and answers; after the list: the queries, with all unused ones of the
   -- 32 records 0, and n, P, M, N with their bound
   pub agrees : below.AgreesWith r os (slicesMachine m)
+  -- the queries as the caller finds them: the 160 numbers are those of the queries in order, and 0 after them
+  pub listed : take listNumbers (m .queries) ≡ numbersIn (r .state .queries ++ replicate (recordLimit - length (r .state .queries)) unused)
   -- n, P, M and N as a totals call would return them
   pub totalled : (o : Outcome) (m′ : Slices) → Performs totals m o m′ → o ≡ (totalsOf (r .state)) .outcome
 

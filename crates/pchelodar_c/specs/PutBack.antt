@@ -9,11 +9,11 @@ use Rattle.window.specs.declared.refusal.Refusal.{Refusal}
 use Rattle.window.specs.declared.refusal.Verdict.the-variants.{Passed, Refused}
 use Rattle.window.specs.Refusals.{refusalNumber}
 use Rattle.registry.specs.Records.{recordLimit}
+use Rattle.engine.specs.Tables.{KeptBeyond}
 use Rattle.engine.specs.declared.calls.Reply.{Reply}
 use Rattle.engine.specs.declared.calls.ReadingReply.{ReadingReply}
 use Rattle.engine.specs.declared.calls.Answered.the-variants as answered
 use Rattle.pchelodar_c.specs.Written.{stateNumbers, stateOf, registeredIn, listNumbers, recordsIn}
-use Rattle.pchelodar_c.specs.Contracts.{KeptBeyond}
 
 -- of a reply to start, register or withdraw, to a state of the numbers w and a query list of the numbers ns: nothing
 -- where the call was refused, and else what is read again as the reply

@@ -25,20 +25,20 @@ fed-as {h} {h′} {xs} {ys} {s} {t} e d f = subst (λ (l : List ℕ). Fed h l t 
 -- calls, and then others
 pub fed-then : {h h′ h″ : Held} {xs ys s t : List ℕ} → Fed h xs s h′ → Fed h′ ys t h″ → Fed h (xs ++ ys) (s ++ t) h″
 fed-then none g = g
-fed-then {ys = ys} {t = t} (more {chunk = chunk} {new = new} {input = input} {text = text} {from = from} {to = to} {written = written} f rest) g =
-    fed-as (sym (append-assoc (slice from to chunk) input ys)) (sym (append-assoc (take written new) text t)) (more f (fed-then rest g))
+fed-then {ys = ys} {t = t} (more {chunk = chunk} {new = new} {input = input} {text = text} {from = from} {to = to} {filled = filled} f rest) g =
+    fed-as (sym (append-assoc (slice from to chunk) input ys)) (sym (append-assoc (take filled new) text t)) (more f (fed-then rest g))
 
 -- where there is a byte, room for a line and a number for it, a call takes a byte
-pub progress : {chunk old new : List ℕ} {from to written : ℕ} {h h′ : Held} (r : Running) → FeedEnsures chunk from h old h′ to new written
+pub progress : {chunk old new : List ℕ} {from to filled : ℕ} {h h′ : Held} (r : Running) → FeedEnsures chunk from h old h′ to new filled
     → Shown r h → lineRoom ≤ length old → from < length chunk → h .session .lines < lineLimit → from < to
-progress {chunk} {old} {new} {from} {to} {written} {h} {h′} r f sh room byte number = go (ltb from to) refl
+progress {chunk} {old} {new} {from} {to} {filled} {h} {h′} r f sh room byte number = go (ltb from to) refl
   where
     go : (b : Bool) → ltb from to ≡ b → from < to
     go true e = ltb-true from to e
     go false e =
         let here : to ≡ from = omega (arith, f .taken .onward, ltb-false from to e) in
         let nothing : slice from to chunk ≡ [] = ap (λ (n : ℕ). slice from n chunk) here ∙ slice-empty from chunk in
-        let says : Says (fedAll r []) h′ old 0 new written = subst (λ (l : List ℕ). Says (fedAll r l) h′ old 0 new written) nothing (f .taken .streams .says r sh) in
+        let says : Says (fedAll r []) h′ old 0 new filled = subst (λ (l : List ℕ). Says (fedAll r l) h′ old 0 new filled) nothing (f .taken .streams .says r sh) in
         let still : lineLimit ≤ h′ .session .lines = f .stops r sh (omega arith) (omega (arith, says .text .ends)) in
         omega (arith, still, says .shown .lines, sh .lines)
 
@@ -53,17 +53,17 @@ reached-as : {t : Tables} {xs ys : List ℕ} {h : Held} → xs ≡ ys → Reache
 reached-as {t} {xs} {ys} {h} e p = subst (λ (l : List ℕ). Reached t l h) e p
 
 -- one call more
-reached-then : {t : Tables} {chunk old new input : List ℕ} {from to written : ℕ} {h h′ : Held} → Reached t input h → FeedEnsures chunk from h old h′ to new written
+reached-then : {t : Tables} {chunk old new input : List ℕ} {from to filled : ℕ} {h h′ : Held} → Reached t input h → FeedEnsures chunk from h old h′ to new filled
     → Reached t (input ++ slice from to chunk) h′
-reached-then {t} {chunk} {old} {new} {input} {from} {to} {written} {h} {h′} p f =
+reached-then {t} {chunk} {old} {new} {input} {from} {to} {filled} {h} {h′} p f =
     record {
-      text = p .text ++ take written new;
+      text = p .text ++ take filled new;
       begun = record {
         lent = p .begun .lent;
         long = p .begun .long;
         first = p .begun .first;
         opens = p .begun .opens;
-        feeds = fed-then (p .begun .feeds) (fed-as (append-nil (slice from to chunk)) (append-nil (take written new)) (more f none));
+        feeds = fed-then (p .begun .feeds) (fed-as (append-nil (slice from to chunk)) (append-nil (take filled new)) (more f none));
       };
       on = p .on;
     }
@@ -81,9 +81,9 @@ pub carries-none : (chunk : List ℕ) (h : Held) → Carries (slice 0 0 chunk) h
 carries-none chunk h = carries-as (sym (slice-empty 0 chunk)) (carries-nothing h)
 
 -- the bytes of a chunk that were handed over, and those taken next
-pub carries-next : {chunk old new : List ℕ} {from to written : ℕ} {h₀ h h′ : Held} → from ≤ length chunk → Carries (slice 0 from chunk) h₀ h → FeedEnsures chunk from h old h′ to new written
+pub carries-next : {chunk old new : List ℕ} {from to filled : ℕ} {h₀ h h′ : Held} → from ≤ length chunk → Carries (slice 0 from chunk) h₀ h → FeedEnsures chunk from h old h′ to new filled
     → Carries (slice 0 to chunk) h₀ h′
-carries-next {chunk} {old} {new} {from} {to} {written} {h₀} {h} {h′} l p f = record { on = on }
+carries-next {chunk} {old} {new} {from} {to} {filled} {h₀} {h} {h′} l p f = record { on = on }
   where
     on : (t : Tables) (input : List ℕ) → Reached t input h₀ → Reached t (input ++ slice 0 to chunk) h′
     on t input q =
@@ -109,9 +109,9 @@ pub limit-then : {bytes : List ℕ} {h h′ h″ : Held} → Carries bytes h h�
 limit-then {bytes} p q = record { on = λ t input r. q .on t (input ++ bytes) (p .on t input r) }
 
 -- where a call has room and takes no byte, there were so many
-pub limit-stopped : {chunk old new : List ℕ} {from to written : ℕ} {h₀ h h′ : Held} → lineRoom ≤ length old → from < length chunk → to ≤ from
-    → Carries (slice 0 from chunk) h₀ h → FeedEnsures chunk from h old h′ to new written → CarriesLimit h₀ h′
-limit-stopped {chunk} {old} {new} {from} {to} {written} {h₀} {h} {h′} room byte still p f = record { on = on }
+pub limit-stopped : {chunk old new : List ℕ} {from to filled : ℕ} {h₀ h h′ : Held} → lineRoom ≤ length old → from < length chunk → to ≤ from
+    → Carries (slice 0 from chunk) h₀ h → FeedEnsures chunk from h old h′ to new filled → CarriesLimit h₀ h′
+limit-stopped {chunk} {old} {new} {from} {to} {filled} {h₀} {h} {h′} room byte still p f = record { on = on }
   where
     on : (t : Tables) (input : List ℕ) → Reached t input h₀ → ReachedLimit t h′
     on t input q =
@@ -128,12 +128,12 @@ limit-stopped {chunk} {old} {new} {from} {to} {written} {h₀} {h} {h′} room b
         at-limit false e sh = ltb-false (h .session .lines) lineLimit e
 
 -- finished
-pub ran-all : {t left : Tables} {h : Held} {input old new : List ℕ} {written : ℕ} → finishRoom ≤ length old → Reached t input h → FinishEnsures h old left new written
+pub ran-all : {t left : Tables} {h : Held} {input old new : List ℕ} {filled : ℕ} → finishRoom ≤ length old → Reached t input h → FinishEnsures h old left new filled
     → RanAll input t left new
-ran-all {t} {left} {h} {input} {old} {new} {written} room p f =
+ran-all {t} {left} {h} {input} {old} {new} {filled} room p f =
     record {
-      output = p .text ++ take written new;
-      ran = record { text = p .text; last = h; begun = p .begun; old = old; room = room; left = left; new = new; written = written; finish = f; all = refl };
+      output = p .text ++ take filled new;
+      ran = record { text = p .text; last = h; begun = p .begun; old = old; room = room; left = left; new = new; filled = filled; finish = f; all = refl };
       on = p .on;
       leaves = refl;
       ends = refl;

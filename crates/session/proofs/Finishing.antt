@@ -122,10 +122,10 @@ ended-by : (r : Running) (b : Bool) → begun (r .line) ≡ b → ended r ≡ co
 unfolding ended
 ended-by r b e = ap (λ (x : Bool). cond x (finished (lineReported (r .position) (parsed (r .line)))) (totalsText (r .position .state))) e
 
-pub finishes : (h h′ : Held) (old mid new : List ℕ) (next written : ℕ) {refuses : Bool} → RefusesEnsures (sessionMachine h) refuses → refuses ≡ false → LastEnsures h old h′ mid next → finishRoom ≤ length old → length new ≡ length old
-    → (Put mid next (totalsLine (h′ .session .state .count) (h′ .session .state .closed) (h′ .session .state .maxima .comparisons) (h′ .session .state .minima .comparisons)) new written) × (written ≤ next + totalsRoom)
-    → FinishEnsures h old (h′ .tables) new written
-finishes h h′ old mid new next written told passed last room size (text, end) =
+pub finishes : (h h′ : Held) (old mid new : List ℕ) (next filled : ℕ) {refuses : Bool} → RefusesEnsures (sessionMachine h) refuses → refuses ≡ false → LastEnsures h old h′ mid next → finishRoom ≤ length old → length new ≡ length old
+    → (Put mid next (totalsLine (h′ .session .state .count) (h′ .session .state .closed) (h′ .session .state .maxima .comparisons) (h′ .session .state .minima .comparisons)) new filled) × (filled ≤ next + totalsRoom)
+    → FinishEnsures h old (h′ .tables) new filled
+finishes h h′ old mid new next filled told passed last room size (text, end) =
     record {
       says = λ r sh few long. says r sh few (begun (r .line)) refl;
       short = λ l. absurd (omega arith);
@@ -135,7 +135,7 @@ finishes h h′ old mid new next written told passed last room size (text, end) 
       kept = last .kept;
     }
   where
-    says : (r : Running) → Shown r h → h .session .lines ≤ lineLimit → (b : Bool) → begun (r .line) ≡ b → Put old 0 (ended r) new written
+    says : (r : Running) → Shown r h → h .session .lines ≤ lineLimit → (b : Bool) → begun (r .line) ≡ b → Put old 0 (ended r) new filled
     says r sh few true e =
         let line : Says (lineEnded r) h′ old 0 mid next = last .line r sh few e in
         put-as (sym (ended-by r true e)) (put-then (line .text) (put-as (totals-are _ (sessionMachine h′) (line .shown .represents)) text))

@@ -58,5 +58,5 @@ module _ {chunk : List ℕ} {from : ℕ} {h : Held} {old : List ℕ} {refuses : 
       }
 
   -- one line after the other
-  pub fed-lines : {h′ : Held} {to written : ℕ} {new : List ℕ} → refuses ≡ false → LinesEnsures chunk from h old h′ to new written → FeedEnsures chunk from h old h′ to new written
+  pub fed-lines : {h′ : Held} {to filled : ℕ} {new : List ℕ} → refuses ≡ false → LinesEnsures chunk from h old h′ to new filled → FeedEnsures chunk from h old h′ to new filled
   fed-lines e p = record { taken = p .taken; stops = λ r sh. p .stops; refuses = λ q. absurd (true≢false (sym (told .always q) ∙ e)) }

@@ -25,9 +25,9 @@ front a = a .text
 
 fed-all : {h h′ : Held} {input text : List ℕ} (r : Running) → Fed h input text h′ → Shown r h → h .session .lines ≤ lineLimit → After r input text h′
 fed-all r none sh few = record { shown = sh; text = refl; few = few }
-fed-all r (more {h} {h′} {h″} {chunk} {old} {new} {input} {text} {from} {to} {written} f rest) sh few =
+fed-all r (more {h} {h′} {h″} {chunk} {old} {new} {input} {text} {from} {to} {filled} f rest) sh few =
     let bytes : List ℕ = slice from to chunk in
-    let says : Says (fedAll r bytes) h′ old 0 new written = f .taken .streams .says r sh in
+    let says : Says (fedAll r bytes) h′ old 0 new filled = f .taken .streams .says r sh in
     let then : After ((fedAll r bytes) .running) input text h″ = fed-all ((fedAll r bytes) .running) rest (says .shown) (f .taken .few few) in
     let same : fedAll r (bytes ++ input) ≡ following ((fedAll r bytes) .text) (fedAll ((fedAll r bytes) .running) input) = fed-append r bytes input in
     record {

@@ -150,33 +150,33 @@ pub record OpenEnsures (t : Tables) (h : Held) : Type 0 where
   pub none : keptLine (h .session .kept) ≡ []
 
 -- nothing is printed: the output stays as it is, and so do the tables
-abbrev pub NothingDone : (t t′ : Tables) (old new : List ℕ) (written : ℕ) → Type 0
-NothingDone t t′ old new written = (t′ ≡ t) × ((written ≡ 0) × (new ≡ old))
+abbrev pub NothingDone : (t t′ : Tables) (old new : List ℕ) (filled : ℕ) → Type 0
+NothingDone t t′ old new filled = (t′ ≡ t) × ((filled ≡ 0) × (new ≡ old))
 
 -- bytes of a chunk, from a place on: those up to `to` are taken, and what they print stands in the first places of the
 -- output
-pub record TakenEnsures (chunk : List ℕ) (from : ℕ) (h : Held) (old : List ℕ) (h′ : Held) (to : ℕ) (new : List ℕ) (written : ℕ) : Type 0 where
-  pub streams : Streams (slice from to chunk) h old 0 h′ new written
+pub record TakenEnsures (chunk : List ℕ) (from : ℕ) (h : Held) (old : List ℕ) (h′ : Held) (to : ℕ) (new : List ℕ) (filled : ℕ) : Type 0 where
+  pub streams : Streams (slice from to chunk) h old 0 h′ new filled
   pub onward : from ≤ to
   pub inside : from ≤ length chunk → to ≤ length chunk
   -- where there is no byte, the place stays
   pub beyond : length chunk ≤ from → to ≡ from
   pub few : h .session .lines ≤ lineLimit → h′ .session .lines ≤ lineLimit
-  pub fits : written ≤ length new
+  pub fits : filled ≤ length new
 
 -- one line after the other: bytes are left only where there is no room for what a line prints at most, or the lines
 -- have come to their limit
-pub record LinesEnsures (chunk : List ℕ) (from : ℕ) (h : Held) (old : List ℕ) (h′ : Held) (to : ℕ) (new : List ℕ) (written : ℕ) : Type 0 where
-  pub taken : TakenEnsures chunk from h old h′ to new written
-  pub stops : to < length chunk → written + lineRoom ≤ length old → lineLimit ≤ h′ .session .lines
+pub record LinesEnsures (chunk : List ℕ) (from : ℕ) (h : Held) (old : List ℕ) (h′ : Held) (to : ℕ) (new : List ℕ) (filled : ℕ) : Type 0 where
+  pub taken : TakenEnsures chunk from h old h′ to new filled
+  pub stops : to < length chunk → filled + lineRoom ≤ length old → lineLimit ≤ h′ .session .lines
 
 -- feed
-pub record FeedEnsures (chunk : List ℕ) (from : ℕ) (h : Held) (old : List ℕ) (h′ : Held) (to : ℕ) (new : List ℕ) (written : ℕ) : Type 0 where
-  pub taken : TakenEnsures chunk from h old h′ to new written
+pub record FeedEnsures (chunk : List ℕ) (from : ℕ) (h : Held) (old : List ℕ) (h′ : Held) (to : ℕ) (new : List ℕ) (filled : ℕ) : Type 0 where
+  pub taken : TakenEnsures chunk from h old h′ to new filled
   -- a session takes all bytes that it has room and line numbers for
-  pub stops : (r : Running) → Shown r h → to < length chunk → written + lineRoom ≤ length old → lineLimit ≤ h′ .session .lines
+  pub stops : (r : Running) → Shown r h → to < length chunk → filled + lineRoom ≤ length old → lineLimit ≤ h′ .session .lines
   -- where the engine would refuse every call, no byte is taken, nothing is printed and nothing changes
-  pub refuses : refusesAll (sessionMachine h) ≡ true → (to ≡ from) × ((h′ .session ≡ h .session) × NothingDone (h .tables) (h′ .tables) old new written)
+  pub refuses : refusesAll (sessionMachine h) ≡ true → (to ≡ from) × ((h′ .session ≡ h .session) × NothingDone (h .tables) (h′ .tables) old new filled)
 
 -- what the end of the input prints at most
 abbrev pub finishRoom : ℕ
@@ -191,12 +191,12 @@ pub record LastEnsures (h : Held) (old : List ℕ) (h′ : Held) (new : List ℕ
   pub kept : TablesKept (h .tables) (h′ .tables)
 
 -- finish: what the end of the input prints stands in the first places of the output
-pub record FinishEnsures (h : Held) (old : List ℕ) (t′ : Tables) (new : List ℕ) (written : ℕ) : Type 0 where
-  pub says : (r : Running) → Shown r h → h .session .lines ≤ lineLimit → finishRoom ≤ length old → Put old 0 (ended r) new written
+pub record FinishEnsures (h : Held) (old : List ℕ) (t′ : Tables) (new : List ℕ) (filled : ℕ) : Type 0 where
+  pub says : (r : Running) → Shown r h → h .session .lines ≤ lineLimit → finishRoom ≤ length old → Put old 0 (ended r) new filled
   -- where the output is too short, or the engine would refuse every call, nothing is printed and nothing changes
-  pub short : length old < finishRoom → NothingDone (h .tables) t′ old new written
-  pub refuses : refusesAll (sessionMachine h) ≡ true → NothingDone (h .tables) t′ old new written
+  pub short : length old < finishRoom → NothingDone (h .tables) t′ old new filled
+  pub refuses : refusesAll (sessionMachine h) ≡ true → NothingDone (h .tables) t′ old new filled
   -- whatever was held: no other place of the output is written, and none beyond the first 4,096 of a table
-  pub puts : PutSome old 0 new written
-  pub fits : written ≤ length new
+  pub puts : PutSome old 0 new filled
+  pub fits : filled ≤ length new
   pub kept : TablesKept (h .tables) t′

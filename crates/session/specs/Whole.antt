@@ -17,8 +17,8 @@ pub data Fed : Held → List ℕ → List ℕ → Held → Type 0 where
   -- no call
   none : {h : Held} → Fed h [] [] h
   -- a first call, of any chunk from any place on and with any output, and then the others
-  more : {h h′ h″ : Held} {chunk old new input text : List ℕ} {from to written : ℕ}
-      → FeedEnsures chunk from h old h′ to new written → Fed h′ input text h″ → Fed h (slice from to chunk ++ input) (take written new ++ text) h″
+  more : {h h′ h″ : Held} {chunk old new input text : List ℕ} {from to filled : ℕ}
+      → FeedEnsures chunk from h old h′ to new filled → Fed h′ input text h″ → Fed h (slice from to chunk ++ input) (take filled new ++ text) h″
 
 -- a session that was opened on tables that pass check 1, whatever they held, and fed this input: what stood at the
 -- front of the output, and what is held
@@ -38,9 +38,9 @@ pub record SessionRan (input output : List ℕ) : Type 0 where
   pub room : finishRoom ≤ length old
   pub left : Tables
   pub new : List ℕ
-  pub written : ℕ
-  pub finish : FinishEnsures last old left new written
-  pub all : output ≡ text ++ take written new
+  pub filled : ℕ
+  pub finish : FinishEnsures last old left new filled
+  pub all : output ≡ text ++ take filled new
 
 -- the claim
 abbrev pub WholeSession : Type 0

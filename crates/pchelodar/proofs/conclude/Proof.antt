@@ -3,10 +3,12 @@
 use mathlib.Core.Path.{refl}
 use lib.ListN.{length-take}
 use native.Mathlib.Omega.{arith}
+use mir.Syntax.{w64}
+use mir.Facts.{toZ-ofZ}
 use borrow.Author.Needs.{needs}
 use Rattle.session.proofs.Composing.{ran-all}
 use Rattle.pchelodar.specs.declared.Progress.the-variants as progress
-use Rattle.pchelodar.proofs.Composing.{told-after, handed-ended, not-ended, concluded}
+use Rattle.pchelodar.proofs.Composing.{told-after, handed-ended, not-ended, end-stays, end-written, concluded}
 use Rattle.pchelodar.proofs.conclude.Statement.{statement}
 use Rattle.pchelodar.proofs.conclude.Tie as tie
 
@@ -17,7 +19,11 @@ finish-requires : tie.Need-finish-requires
 finish-requires c κs = search needs
 
 returns : tie.Need-returns
-returns c = (λ lent handed. not-ended lent _ _ (c .before .before .before .before .before .before .args .done .progress) (c .match .keys2) handed, λ told. told)
+returns c =
+    let done = c .before .before .before .before .before .before .before .args .done in (
+      (end-stays (done .progress) (done .said) (c .before .match .keys2), toZ-ofZ {w = w64} {z = done .got} (record { sfits = c .struct-told .given .1 .1 .0 .1 })),
+      (λ lent handed. not-ended lent _ _ (done .progress) (c .before .match .keys2) handed, λ told. told),
+    )
 
 slice-reshare-prefix-write-all : tie.Need-slice-reshare-prefix-write-all
 slice-reshare-prefix-write-all c = search needs
@@ -56,13 +62,18 @@ same-length-7 c = search needs
 
 returns-2 : tie.Need-returns-2
 returns-2 c =
-    let at-finish = c .before .before .before .before .before .before .before .before .before .before .before .before .before .before in
+    let at-finish = c .before .before .before .before .before .before .before .before .before .before .before .before .before .before .before in
     let at-told = at-finish .before .before .before .before .before .before .before .before in
-    let at-start = at-told .before .before .before .before .before .before .before in (
-      λ lent handed.
-          let ended = handed-ended lent _ (at-told .enum-told .given .1) handed in
-          concluded (c .before .write-all .result) (c .after-write .result) (c .after-write .ensures) ended (ran-all (at-start .pre) (ended .reached) (at-finish .finish .ensures)),
-      λ _. told-after (c .before .write-all .result) progress.InputEnded (c .after-write .result) refl (c .after-write .ensures),
+    let at-start = at-told .before .before .before .before .before .before .before in
+    let said = c .before .before .write-all .result in
+    let end = c .before .after-write .result in (
+      (end-written said _ end (at-told .enum-told .given .1) (c .before .after-write .ensures), toZ-ofZ {w = w64} {z = at-start .args .done .got} (record { sfits = c .struct-told2 .given .1 .1 .0 .1 })),
+      (
+        λ lent handed.
+            let ended = handed-ended lent _ (at-told .enum-told .given .1) handed in
+            concluded said end (c .before .after-write .ensures) ended (ran-all (at-start .pre) (ended .reached) (at-finish .finish .ensures)),
+        λ _. told-after said progress.InputEnded end refl (c .before .after-write .ensures),
+      ),
     )
 
 pub conclude-spec : {M : Type 1} → statement M

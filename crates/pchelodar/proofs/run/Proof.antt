@@ -3,7 +3,7 @@ use native.Mathlib.Omega.{arith}
 use mathlib.Core.Path.{_∙_}
 use borrow.Author.Needs.{needs}
 use Rattle.session.proofs.Composing.{reached-first}
-use Rattle.pchelodar.proofs.Composing.{all-handed}
+use Rattle.pchelodar.proofs.Composing.{all-handed, heard-after}
 use Rattle.pchelodar.proofs.run.Statement.{statement}
 use Rattle.pchelodar.proofs.run.Tie as tie
 
@@ -75,9 +75,15 @@ returns c =
     let at-read-all = at-conclude .before .before .before .before .before .before .before .before .before .before .before .before .before .before .before .before .before .before .before .before .before in
     let at-open = at-read-all .before .before .before .before .before .before .before .before .before .before .before .before .before .before .before .before .before .before in
     let at-start = at-open .before .before .before .before .before .before .before .before .before .before .before .before in
-    let read = at-read-all .read-all .ensures in (
-      at-conclude .conclude .ensures .0 _ (all-handed _ (at-read-all .read-all .result .progress) _ (reached-first (at-start .pre .0) (at-open .«open» .ensures)) (read .0) (read .1 .0)),
-      at-conclude .conclude .ensures .1 (read .1 .1),
+    let read = at-read-all .read-all .ensures in
+    let done = at-read-all .read-all .result in
+    let after = at-conclude .conclude .result in
+    let end = at-conclude .conclude .ensures in (
+      end .1 .0 _ (all-handed _ (done .progress) (reached-first (at-start .pre .0) (at-open .«open» .ensures)) (read .0)),
+      (
+        heard-after (done .progress) (after .progress) (after .said) (done .got) (after .got) _ (end .0 .0) (end .0 .1) (read .1 .0),
+        end .1 .1 (read .1 .1),
+      ),
     )
 
 pub run-spec : {M : Type 1} → statement M
