@@ -20,11 +20,10 @@ mod subject;
 use fault::Fault;
 use report::Difference;
 use session::Tally;
-use shrink::Limits;
 use std::io::{Read, Write};
 use std::path::PathBuf;
 use std::process::exit;
-use std::time::{Duration, Instant};
+use std::time::Instant;
 use subject::Subject;
 
 const DEFAULT_PROGRAM: &str = "target/bin/pchelodar";
@@ -34,6 +33,10 @@ const DEFAULT_CYCLES: u64 = 8;
 
 /// How many sessions the self-test tries for each wrong variant.
 const SELF_TEST_SESSIONS: u64 = 3_000;
+
+/// How often a session is run at most while it is shrunk, and how often in the self-test.
+const SHRINKING: usize = 3_000;
+const SELF_TEST_SHRINKING: usize = 400;
 
 enum Task {
     Compare,
@@ -161,8 +164,7 @@ fn compare(options: &Options) -> bool {
 /// Shrinks and prints a failing session.
 fn found(subject: &Subject, seed: u64, made: &generate::Session) {
     println!("outside: seed {seed} ({}) differs; shrinking", made.profile);
-    let limits = Limits { runs: 3_000, time: Duration::from_secs(60) };
-    let input = shrink::shrink(&made.input, &|input| subject.differs(input), &limits);
+    let input = shrink::shrink(&made.input, &|input| subject.differs(input), SHRINKING);
     let outcome = subject.run(&input);
     let expected = subject::expected(&input);
     report::difference(&Difference { seed, made, input, expected, outcome });
@@ -192,8 +194,7 @@ fn first_difference(subject: &Subject, most_sessions: u64) -> Option<(u64, usize
     for seed in 1..=most_sessions {
         let input = generate::session(seed).input;
         if subject.differs(&input) {
-            let limits = Limits { runs: 5_000, time: Duration::from_secs(3) };
-            let shrunk = shrink::shrink(&input, &|input| subject.differs(input), &limits);
+            let shrunk = shrink::shrink(&input, &|input| subject.differs(input), SELF_TEST_SHRINKING);
             return Some((seed, lines::split(&input).len(), shrunk));
         }
     }

@@ -2,27 +2,19 @@
 //! made simpler, for as long as the session still shows a difference.
 
 use std::collections::BTreeSet;
-use std::time::{Duration, Instant};
-
-pub struct Limits {
-    pub runs: usize,
-    pub time: Duration,
-}
 
 struct Shrinker<'a> {
     differs: &'a dyn Fn(&[u8]) -> bool,
     runs_left: usize,
-    until: Instant,
     lines: Vec<Vec<u8>>,
     ended: bool,
 }
 
-/// The shortest session found that still differs.
-pub fn shrink(input: &[u8], differs: &dyn Fn(&[u8]) -> bool, limits: &Limits) -> Vec<u8> {
+/// The shortest session found, in so many runs at most, that still differs.
+pub fn shrink(input: &[u8], differs: &dyn Fn(&[u8]) -> bool, most_runs: usize) -> Vec<u8> {
     let lines = crate::lines::split(input).into_iter().map(<[u8]>::to_vec).collect();
     let ended = input.is_empty() || input.ends_with(b"\n");
-    let until = Instant::now() + limits.time;
-    let mut shrinker = Shrinker { differs, runs_left: limits.runs, until, lines, ended };
+    let mut shrinker = Shrinker { differs, runs_left: most_runs, lines, ended };
     shrinker.end_last_line();
     while shrinker.pass() {}
     shrinker.input(&shrinker.lines)
@@ -38,7 +30,7 @@ impl Shrinker<'_> {
     }
 
     fn is_spent(&self) -> bool {
-        self.runs_left == 0 || Instant::now() >= self.until
+        self.runs_left == 0
     }
 
     /// Takes these lines in place of the present ones if they still differ.

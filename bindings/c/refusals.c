@@ -26,6 +26,18 @@ _Static_assert(PCHELODAR_ANSWER_PLACES == 4, "places of an answer");
 _Static_assert(PCHELODAR_SUM == 1 && PCHELODAR_COUNT == 2, "kinds 1 and 2");
 _Static_assert(PCHELODAR_MAXIMUM == 3 && PCHELODAR_MINIMUM == 4, "kinds 3 and 4");
 
+/* What the functions take: the state and the query list, the tables, and what is each call's own. */
+#define NUMBERS(s, q) s uint64_t *, size_t, q uint32_t *, size_t
+#define TABLES(t) \
+    t uint32_t *, size_t, t int64_t *, size_t, t uint32_t *, size_t, t int32_t *, size_t, t uint32_t *, size_t, \
+        t int32_t *, size_t
+#define TAKES(function, ...) _Generic(&(function), uint32_t (*)(__VA_ARGS__): 1, default: 0)
+_Static_assert(TAKES(pchelodar_start, NUMBERS(, ), TABLES()), "what start takes");
+_Static_assert(TAKES(pchelodar_register, NUMBERS(, ), TABLES(), uint32_t, uint32_t, uint32_t, uint32_t), "register");
+_Static_assert(TAKES(pchelodar_withdraw, NUMBERS(, ), TABLES(const), uint32_t), "what withdraw takes");
+_Static_assert(TAKES(pchelodar_reading, NUMBERS(, const), TABLES(), int64_t *, size_t, size_t *, int32_t), "reading");
+_Static_assert(TAKES(pchelodar_totals, NUMBERS(const, const), TABLES(const), uint64_t *), "what totals takes");
+
 /* The header's names, each at document 01's number. */
 #define REFUSAL(number, name) [number] = {#name, name}
 static const struct {

@@ -1,7 +1,7 @@
 /* How to save an engine and go on from the copy: all that it knows stands in the slices that are lent to it.
  *
  * `save FILE` saves an engine between two calls, restores it into other slices, and lets both go on: they have to give
- * the same answers and totals, and to leave the same slices. A copy with one byte changed is not restored. */
+ * the same answers and to leave the same slices. A copy with one byte changed is not restored. */
 #include <stdio.h>
 #include <string.h>
 

@@ -1,10 +1,12 @@
-//! Rule `comparison`: `compare` is the one function of its name, is called in `Deque::close` alone, and the total that
-//! it returns is what the next comparison and the returned deque get. Closing steps, which make the comparisons, stand
-//! nowhere but where the engine closes a partial, so that no deque that one of them returned is left behind.
+//! Rule `comparison`: `compare` is the one function of its name, makes one comparison for each extreme, is called in
+//! `Deque::close` alone, and the total that it returns is what the next comparison and the returned deque get. Closing
+//! steps, and the calls that close, stand where they are to (`steps.rs`), so that no deque that one of them returned is
+//! left behind.
 
 use crate::shape::{arguments, assignments, is_struct, tail};
 use crate::source::{Finding, Function, Open, Sources};
-use crate::tokens::{begins, each_list, split, Tree};
+use crate::steps;
+use crate::tokens::{begins, each_list, is_written, mentions, split, Tree};
 
 /// Where `compare` is defined, and the function that calls it.
 const FILE: &str = "crates/deque/src/compare.rt";
@@ -14,13 +16,10 @@ const CALLER: &str = "deque Deque::close";
 /// How it is brought in.
 const USED: &str = "crate :: compare :: compare";
 
-/// Who calls a closing step, which one, and how often it stands there: `close` for the sums, the maxima and the minima.
-const CLOSINGS: [(&str, &str, usize); 4] = [
-    ("engine State::close", "close", 3),
-    ("engine State::close_open", "close", 1),
-    ("engine register", "close_open", 1),
-    ("engine reading", "close_open", 1),
-];
+/// Its body, as it is to be: one comparison for each extreme.
+const BODY: &str =
+    "let total = total + 1; match extreme { Extreme::Maximum => Compared { verdict: older <= newer, total }, \
+     Extreme::Minimum => Compared { verdict: newer <= older, total } }";
 
 /// Where deques are written out, of those crates that make comparisons or pass deques on: the empty one, and the one
 /// that a closing returns.
@@ -30,26 +29,27 @@ const WRITTEN_IN: [&str; 2] = ["deque", "engine"];
 pub fn rule(sources: &Sources) -> Vec<Finding> {
     let mut found = definitions(sources);
     for file in &sources.files {
+        for item in &file.uses {
+            let renamed = mentions(item, "as").into_iter();
+            found.extend(
+                renamed.map(|line| Finding::new(&file.path, line, "something is brought in under another name")),
+            );
+        }
         for item in file.uses.iter().filter(|item| !(item.len() == 5 && begins(item, USED))) {
             let named = |at: &usize| item[*at].is_word("compare") && !begins(&item[at + 1..], "::");
             let line = (0..item.len()).find(named).map(|at| item[at].line);
-            found.extend(line.map(|line| Finding::new(&file.path, line, "`compare` is brought in under another name")));
+            found.extend(line.map(|line| Finding::new(&file.path, line, "`compare` is brought in by another path")));
         }
     }
     for function in &sources.functions {
         if function.is(CALLER) {
             found.extend(caller(sources, function));
         } else if !function.is(COMPARE) {
-            mentions(function, &mut found);
+            called_elsewhere(function, &mut found);
         }
-        closings(function, &mut found);
         written_deques(sources, function, &mut found);
     }
-    for (caller, _, _) in CLOSINGS {
-        if !sources.functions.iter().any(|function| function.is(caller)) {
-            found.push(Finding::new("crates/engine/src", 0, format!("no function `{caller}`")));
-        }
-    }
+    found.extend(steps::findings(sources));
     found
 }
 
@@ -64,8 +64,13 @@ fn definitions(sources: &Sources) -> Vec<Finding> {
     if own.len() != 1 {
         found.push(Finding::new(FILE, 1, format!("`compare` is defined {} times here", own.len())));
     }
-    for function in own.into_iter().filter(|function| function.open == Open::Everywhere) {
-        found.push(function.finding(function.line, "`compare` is open to other crates"));
+    for function in own {
+        if function.open == Open::Everywhere {
+            found.push(function.finding(function.line, "`compare` is open to other crates"));
+        }
+        if !is_written(&function.body, BODY) {
+            found.push(function.finding(function.line, format!("`compare` is to be `{BODY}`")));
+        }
     }
     if !sources.functions.iter().any(|function| function.is(CALLER)) {
         found.push(Finding::new("crates/deque/src/extremes.rt", 1, format!("no function `{CALLER}`")));
@@ -74,7 +79,7 @@ fn definitions(sources: &Sources) -> Vec<Finding> {
 }
 
 /// Any mention of `compare` in another function; `compare::` is the module.
-fn mentions(function: &Function, found: &mut Vec<Finding>) {
+fn called_elsewhere(function: &Function, found: &mut Vec<Finding>) {
     each_list(&function.body, &mut |list| {
         for at in (0..list.len()).filter(|&at| list[at].is_word("compare")) {
             if !list.get(at + 1).is_some_and(|next| next.is_sign("::")) {
@@ -195,26 +200,6 @@ fn total_kept(sources: &Sources, function: &Function, total: &str, calls: usize)
 
 fn shown(tree: Option<&Tree>) -> &str {
     tree.and_then(Tree::word).unwrap_or_default()
-}
-
-/// Calls of the closing steps: as `CLOSINGS` has them, and not in a loop.
-fn closings(function: &Function, found: &mut Vec<Finding>) {
-    for step in ["close", "close_open"] {
-        let mut lines = Vec::new();
-        let mut looped = false;
-        each_list(&function.body, &mut |list| {
-            let calls = |at: &usize| list[*at].is_word(step) && arguments(list, *at).is_some();
-            lines.extend((0..list.len()).filter(calls).map(|at| list[at].line));
-            looped |= list.iter().any(|tree| ["loop", "while", "for"].into_iter().any(|word| tree.is_word(word)));
-        });
-        let wanted = CLOSINGS.iter().find(|(caller, name, _)| function.is(caller) && *name == step);
-        let wanted = wanted.map_or(0, |(_, _, times)| *times);
-        if lines.len() != wanted || (wanted > 0 && looped) {
-            let line = lines.last().copied().unwrap_or(function.line);
-            let what = format!("`{step}` is called {} times in {}, not {wanted}", lines.len(), function.title());
-            found.push(function.finding(line, if looped { format!("{what} and in no loop") } else { what }));
-        }
-    }
 }
 
 /// Deques that are written out elsewhere, totals that are written over, and what `compare` returns, made up.

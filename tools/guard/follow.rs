@@ -8,15 +8,16 @@ use crate::source::{Function, Sources};
 use crate::tokens::{each_list, split, Tree};
 use std::collections::BTreeSet;
 
-/// The names under which tables of values are lent, in every crate. `table` is what `zero_values` of the engine calls
-/// the one that it fills with zeroes; since tables of starts and of sums are called so too, it is a table of values
-/// only where its type says so.
-pub const TABLES: [&str; 4] = ["values", "max_values", "min_values", "table"];
+/// The names under which tables of values are lent, in every crate.
+pub const TABLES: [&str; 3] = ["values", "max_values", "min_values"];
+
+/// The one other name, which a parameter of this function of the engine has: it fills a table with zeroes.
+pub const ZEROED: (&str, &str) = ("zero_values", "table");
 
 /// The answer places, which a value may be stored in, and the crates in which one that is read back is followed on.
 /// Above them answers are printed.
 pub const ANSWERS: &str = "answers";
-const ANSWERED_IN: [&str; 2] = ["deque", "engine"];
+pub const ANSWERED_IN: [&str; 4] = ["deque", "engine", "lent", "pchelodar_c"];
 
 /// Functions that may be handed a value, with the parameter that takes it, which is followed there.
 pub const HANDED: [(&str, &str); 1] = [("engine put_answer", "value")];
@@ -67,7 +68,7 @@ pub struct View<'a> {
 
 impl<'a> View<'a> {
     pub fn of(sources: &'a Sources, facts: &'a Facts, function: &'a Function) -> View<'a> {
-        let mut tables: Vec<&str> = TABLES.into_iter().filter(|name| *name != "table").collect();
+        let mut tables: Vec<&str> = TABLES.to_vec();
         let mut locals = BTreeSet::new();
         for param in &function.params {
             if param.kind.iter().any(|tree| sources.is_i32_table(tree)) {
@@ -119,14 +120,15 @@ impl<'a> View<'a> {
     }
 
     /// Whether a value is read at this place of a list.
-    fn reads(&self, list: &[Tree], at: usize) -> bool {
+    pub fn reads(&self, list: &[Tree], at: usize) -> bool {
         let Some(word) = list[at].word() else { return false };
         let next = list.get(at + 1);
         let after_dot = at > 0 && list[at - 1].is_sign(".");
-        if let Some(index) = next.and_then(|next| next.group('[')) {
+        if next.is_some_and(|next| next.group('[').is_some()) {
             let answer = word == ANSWERS && ANSWERED_IN.contains(&self.function.krate.as_str());
             if answer || self.tables.contains(&word) {
-                return !is_range(index);
+                let mut indexes = list[at + 1..].iter().map_while(|tree| tree.group('['));
+                return indexes.any(|index| !is_range(index));
             }
         }
         if next.is_some_and(|next| next.group('(').is_some()) {
@@ -253,6 +255,7 @@ impl<'a> View<'a> {
         })
     }
 }
+
 /// The fields of a struct that is written at this place, as an expression or as a pattern: each name, and what it gets
 /// or is bound to.
 fn fields_at<'a>(sources: &Sources, list: &'a [Tree], at: usize) -> Vec<(&'a str, &'a [Tree])> {
@@ -276,6 +279,7 @@ fn assigned_local(place: &[Tree]) -> Option<&str> {
     }
 }
 
-fn is_range(index: &[Tree]) -> bool {
+/// Whether an index is a range, so that what is indexed by it is a part of the table.
+pub fn is_range(index: &[Tree]) -> bool {
     index.iter().any(|tree| tree.is_sign("..") || tree.is_sign("..="))
 }

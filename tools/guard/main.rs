@@ -3,12 +3,16 @@
 //!     guard ROOT FOLDER [RULE..]      the sources under ROOT, the planted violations in FOLDER, and the rules to try:
 //!                                     those that are on, if none is named
 
+mod answers;
 mod comparison;
 mod follow;
+mod open_partial;
 mod planted;
+mod program;
 mod session;
 mod shape;
 mod source;
+mod steps;
 mod tokens;
 mod values;
 
@@ -85,11 +89,13 @@ fn findings<'a>(rules: &[&'a Rule], texts: &Texts) -> Vec<(&'a str, Finding)> {
 /// How many violations were planted and found, and how many harmless edits were made.
 fn check_planted(rules: &[&Rule], texts: &Texts, folder: &Path) -> Result<(usize, usize), Vec<String>> {
     let (mut planted, mut harmless) = (0, 0);
-    let mut wrong = Vec::new();
-    for edit in planted::load(folder).map_err(|error| vec![error])? {
-        let known = RULES.iter().any(|rule| Some(rule.name) == edit.rule());
+    let edits = planted::load(folder).map_err(|error| vec![error])?;
+    let unplanted = |rule: &&&Rule| !edits.iter().any(|edit| edit.rule() == Some(rule.name));
+    let none = |rule: &&Rule| format!("planted: no violation of rule {}", rule.name);
+    let mut wrong: Vec<String> = rules.iter().filter(unplanted).map(none).collect();
+    for edit in &edits {
         if edit.rule().is_some() && !rules.iter().any(|rule| Some(rule.name) == edit.rule()) {
-            if !known {
+            if !RULES.iter().any(|rule| Some(rule.name) == edit.rule()) {
                 wrong.push(format!("planted/{}: named after no rule", edit.name));
             }
             continue;

@@ -119,7 +119,13 @@ impl Sources {
     pub fn of(texts: &Texts) -> Result<Sources, Finding> {
         let mut sources = Sources { i32s: vec!["i32".to_string()], ..Sources::default() };
         for (path, text) in texts {
-            let trees = read(text).map_err(|line| Finding::new(path, line, "brackets do not match here"))?;
+            let trees = read(text).map_err(|line| {
+                Finding::new(
+                    path,
+                    line,
+                    "this cannot be read: brackets do not match, or a string is of a kind that is not known",
+                )
+            })?;
             let krate = path.split('/').nth(1).unwrap_or_default().to_string();
             let mut file = File { krate, path: path.clone(), trees: Vec::new(), uses: Vec::new() };
             sources.items(&trees, None, &mut file)?;
@@ -171,6 +177,9 @@ impl Sources {
         let name = trees[at + 1].word()?.to_string();
         let params = at + trees[at..].iter().position(|tree| tree.group('(').is_some())?;
         let body = params + trees[params..].iter().position(|tree| tree.group('{').is_some())?;
+        if trees[params..body].iter().any(|tree| tree.is_sign(";") || tree.is_word("fn")) {
+            return None;
+        }
         let open = match trees[start..at].iter().position(|tree| tree.is_word("pub")) {
             None => Open::Module,
             Some(place) if trees[start + place + 1].group('(').is_some() => Open::Crate,
@@ -196,7 +205,7 @@ impl Sources {
             each_list(&file.trees, &mut |list| {
                 for at in 0..list.len() {
                     if list[at].is_word("type") && list.len() > at + 3 && list[at + 2].is_sign("=") {
-                        declared.push((list[at + 1].word(), list[at + 3].word()));
+                        declared.push((list[at + 1].word(), path_end(&list[at + 3..])));
                     }
                 }
             });
@@ -217,11 +226,17 @@ impl Sources {
 
     /// Whether a bracketed group is a slice or an array of `i32`: `[i32]`, `[i32; 3]`, `[0i32; 3]`.
     pub fn is_i32_table(&self, tree: &Tree) -> bool {
-        let Some(inner) = tree.group('[') else { return false };
-        let Some(first) = inner.first().and_then(Tree::word) else { return false };
-        let number = first.starts_with(|c: char| c.is_ascii_digit()) && first.ends_with("i32");
-        (number || self.i32s.iter().any(|name| name == first)) && inner.get(1).is_none_or(|next| next.is_sign(";"))
+        let Some(element) = tree.group('[').and_then(path_end) else { return false };
+        let number = element.starts_with(|c: char| c.is_ascii_digit()) && element.ends_with("i32");
+        number || self.i32s.iter().any(|name| name == element)
     }
+}
+
+/// The last word of a path that ends with the list or with a semicolon.
+fn path_end(list: &[Tree]) -> Option<&str> {
+    let path = list.split(|tree| tree.is_sign(";")).next()?;
+    let plain = path.iter().all(|tree| tree.word().is_some() || tree.is_sign("::"));
+    path.last().filter(|_| plain)?.word()
 }
 
 /// What may stand before an item's keyword.

@@ -120,7 +120,8 @@ impl Reader {
                     self.step();
                     self.literal(self.peek(0))
                 }
-                _ if c.is_alphanumeric() || c == '_' => Kind::Word(self.take_word()),
+                '\'' if self.peek(1) == '\\' || self.peek(2) == '\'' => self.literal('\''),
+                _ if c.is_alphanumeric() || c == '_' => Kind::Word(self.take_word()?),
                 _ => self.take_sign(),
             };
             out.push(Tree { line, kind });
@@ -178,13 +179,17 @@ impl Reader {
         Kind::Word("0".to_string())
     }
 
-    fn take_word(&mut self) -> String {
+    /// A word. One that begins a string, as in `r"`, is not known.
+    fn take_word(&mut self) -> Result<String, usize> {
         let mut word = String::new();
         while self.peek(0).is_alphanumeric() || self.peek(0) == '_' {
             word.push(self.peek(0));
             self.step();
         }
-        word
+        if ['"', '#'].contains(&self.peek(0)) {
+            return Err(self.line);
+        }
+        Ok(word)
     }
 
     /// A sign; those of the proof language, which stand in contracts alone, are one and the same.
@@ -197,16 +202,20 @@ impl Reader {
     }
 }
 
-/// Without `requires { .. }`, `ensures NAME { .. }` and `ghost ..;`.
+/// Without `ghost use ..;`, and without the clauses between a function's `fn` and its body: `requires { .. }`,
+/// `ensures NAME { .. }` and `ghost { .. }`. In a body these are words like any other.
 fn without_contracts(trees: Vec<Tree>) -> Vec<Tree> {
     let mut out = Vec::new();
-    let mut rest = trees.into_iter();
+    let mut rest = trees.into_iter().peekable();
+    let mut before_body = false;
     while let Some(tree) = rest.next() {
-        if tree.is_word("requires") || tree.is_word("ensures") {
+        let clause = ["requires", "ensures", "ghost"].into_iter().any(|word| tree.is_word(word));
+        if before_body && clause {
             rest.find(|tree| tree.group('{').is_some());
-        } else if tree.is_word("ghost") {
+        } else if tree.is_word("ghost") && rest.peek().is_some_and(|next| next.is_word("use")) {
             rest.find(|tree| tree.is_sign(";"));
         } else {
+            before_body = tree.is_word("fn") || (before_body && tree.group('{').is_none());
             let line = tree.line;
             let kind = match tree.kind {
                 Kind::Group(open, inner) => Kind::Group(open, without_contracts(inner)),
@@ -225,6 +234,34 @@ pub fn split<'a>(trees: &'a [Tree], sign: &str) -> Vec<&'a [Tree]> {
         parts.pop();
     }
     parts
+}
+
+/// The lines at which a word stands in these trees.
+pub fn mentions(trees: &[Tree], word: &str) -> Vec<usize> {
+    let mut lines = Vec::new();
+    each_list(trees, &mut |list| lines.extend(list.iter().filter(|tree| tree.is_word(word)).map(|tree| tree.line)));
+    lines
+}
+
+/// Whether trees are written just so. A comma before a closing bracket is as good as none.
+pub fn is_written(trees: &[Tree], text: &str) -> bool {
+    read(text).is_ok_and(|wanted| same(trees, &wanted))
+}
+
+fn same(these: &[Tree], those: &[Tree]) -> bool {
+    let (these, those) = (without_last_comma(these), without_last_comma(those));
+    these.len() == those.len()
+        && these.iter().zip(those).all(|(this, that)| match (&this.kind, &that.kind) {
+            (Kind::Group(open, inner), Kind::Group(other, wanted)) => open == other && same(inner, wanted),
+            (this, that) => this == that,
+        })
+}
+
+fn without_last_comma(trees: &[Tree]) -> &[Tree] {
+    match trees {
+        [all @ .., last] if last.is_sign(",") => all,
+        _ => trees,
+    }
 }
 
 /// Calls a function on a list of trees and on every list below it.

@@ -1,67 +1,51 @@
 //! Rule `values`: what is read from a table of values (`follow.rs`) is compared by `compare` alone. It may be returned,
 //! stored in a table of values or in the answers, and kept in a field, where it is followed. It may not stand beside a
-//! comparison sign, decide an `if`, a `match` or a loop, be an index, or be handed to any function but `compare` and
-//! those of `HANDED`. The maximum and the minimum of the open partial, which are compared with readings, go nowhere but
-//! to the closing steps.
+//! comparison sign, in `deque` and `engine` beside no arithmetic operator, decide an `if`, a `match` or a loop, be an
+//! index, or be handed to any function but `compare` and those of `HANDED`. A table keeps its name, and of its methods
+//! `len` alone is called; so it is with the answer places (`answers.rs`). For the extremes of the open partial, which
+//! are compared with readings, see `open_partial.rs`.
 
-use crate::follow::{Facts, View, ANSWERS, COMPARE, HANDED, TABLES};
+use crate::follow::{is_range, Facts, View, ANSWERS, COMPARE, HANDED, TABLES, ZEROED};
 use crate::shape::{arguments, assignments, block_after, is_keyword, operands, Assignment, COMPARISONS};
-use crate::source::{Finding, Function, Sources};
-use crate::tokens::{each_list, split, Tree};
+use crate::source::{File, Finding, Sources};
+use crate::tokens::{begins, each_list, split, Tree};
+use crate::{answers, open_partial};
 
 /// The crates that come with the language; their functions are not looked at, and no table is lent to them.
 const KIT: [&str; 6] = ["std", "check", "libc", "io", "os", "bytes"];
 
-/// The fields of the open partial that are values once it is closed, the crate that has it, the file in which readings
-/// join it, and the closing steps, which they are handed to.
-const OPEN_FIELDS: [&str; 2] = ["maximum", "minimum"];
-const OPEN_IN: &str = "engine";
-const OPEN_FILE: &str = "crates/engine/src/partial.rt";
-const CLOSING: &str = "close";
+/// Arithmetic and bit operators, `&` before a place being taken for one, and the crates in which no value stands beside
+/// one.
+const ARITHMETIC: [&str; 20] =
+    ["+", "-", "*", "/", "%", "&", "|", "^", "<<", ">>", "+=", "-=", "*=", "/=", "%=", "&=", "|=", "^=", "<<=", ">>="];
+const NO_ARITHMETIC_IN: [&str; 2] = ["deque", "engine"];
 
 pub fn rule(sources: &Sources) -> Vec<Finding> {
     let facts = Facts::of(sources);
-    let mut found = table_names(sources);
-    for function in sources.functions.iter().filter(|function| !function.is(COMPARE)) {
-        View::of(sources, &facts, function).report(&mut found);
-        if function.krate == OPEN_IN && function.file != OPEN_FILE {
-            open_fields(function, &function.body, &mut found);
-        }
-    }
-    found
-}
-
-/// Slices and arrays of `i32` under other names.
-fn table_names(sources: &Sources) -> Vec<Finding> {
     let mut found = Vec::new();
     for file in &sources.files {
-        each_list(&file.trees, &mut |list| {
-            for at in (0..list.len()).filter(|&at| sources.is_i32_table(&list[at])) {
-                let name = declared_name(list, at);
-                if !name.is_some_and(|name| TABLES.contains(&name)) {
-                    let what = format!("a slice or array of i32 named {}: no name of a table of values", shown(name));
-                    found.push(Finding::new(&file.path, list[at].line, what));
-                }
-            }
-        });
+        table_names(sources, file, &file.trees, false, &mut found);
+    }
+    for function in sources.functions.iter().filter(|function| !function.is(COMPARE)) {
+        View::of(sources, &facts, function).report(&mut found);
+        answers::report(sources, function, &mut found);
+        open_partial::report(sources, function, &mut found);
     }
     found
 }
 
-/// Any mention of the open partial's extremes but as an argument of a closing step, `a.maximum`.
-fn open_fields(function: &Function, list: &[Tree], found: &mut Vec<Finding>) {
+/// Slices and arrays of `i32` under other names. `zeroed` is whether these are the parameters of the function that
+/// fills one with zeroes.
+fn table_names(sources: &Sources, file: &File, list: &[Tree], zeroed: bool, found: &mut Vec<Finding>) {
     for at in 0..list.len() {
-        if list[at].word().is_some_and(|word| OPEN_FIELDS.contains(&word)) {
-            let what = format!("an extreme of the open partial goes to something else than `{CLOSING}`");
-            found.push(function.finding(list[at].line, what));
+        let name = declared_name(list, at);
+        let known = name.is_some_and(|name| TABLES.contains(&name) || (zeroed && name == ZEROED.1));
+        if sources.is_i32_table(&list[at]) && !known {
+            let what = format!("a slice or array of i32 named {}: no name of a table of values", shown(name));
+            found.push(Finding::new(&file.path, list[at].line, what));
         }
-        let closes = at > 0 && list[at - 1].is_word(CLOSING);
-        let plain = |part: &[Tree]| part.len() == 3 && part[1].is_sign(".");
-        for part in split(list[at].inner().unwrap_or_default(), ",") {
-            if !(closes && plain(part)) {
-                open_fields(function, part, found);
-            }
-        }
+        let zeroes = at > 1 && list[at - 2].is_word("fn") && list[at - 1].is_word(ZEROED.0) && file.krate == "engine";
+        table_names(sources, file, list[at].inner().unwrap_or_default(), zeroes, found);
     }
 }
 
@@ -92,6 +76,8 @@ impl View<'_> {
                 let mut say =
                     |what: String| found.push(self.function.finding(list[at].line, format!("{what}, in {name}")));
                 self.report_decision(list, at, &mut say);
+                self.report_table(list, at, &mut say);
+                self.report_method(list, at, &mut say);
                 self.report_call(list, at, &mut say);
                 self.report_index(list, at, &mut say);
             }
@@ -102,9 +88,10 @@ impl View<'_> {
         });
     }
 
-    /// A comparison, a condition, or what a `match` or a `for` goes by.
+    /// A comparison, arithmetic, a condition, or what a `match` or a `for` goes by.
     fn report_decision(&self, list: &[Tree], at: usize, say: &mut dyn FnMut(String)) {
-        if let Some(sign) = list[at].sign().filter(|sign| COMPARISONS.contains(sign)) {
+        let beside = |sign: &&str| COMPARISONS.contains(sign) || self.is_arithmetic(sign);
+        if let Some(sign) = list[at].sign().filter(beside) {
             if operands(list, at).into_iter().any(|operand| self.has_value(operand)) {
                 say(format!("a value of a table stands beside `{sign}`"));
             }
@@ -114,6 +101,36 @@ impl View<'_> {
             if self.has_value(&list[at + 1..end]) {
                 say(format!("a value of a table decides after `{word}`"));
             }
+        }
+    }
+
+    fn is_arithmetic(&self, sign: &str) -> bool {
+        NO_ARITHMETIC_IN.contains(&self.function.krate.as_str()) && ARITHMETIC.contains(&sign)
+    }
+
+    /// A table as a whole, or a part of it, that is compared, matched or gone through, or whose method is called.
+    fn report_table(&self, list: &[Tree], at: usize, say: &mut dyn FnMut(String)) {
+        if let Some(sign) = list[at].sign().filter(|sign| COMPARISONS.contains(sign)) {
+            if operands(list, at).into_iter().any(|operand| self.has_table(operand)) {
+                say(format!("a table of values stands beside `{sign}`"));
+            }
+        }
+        if let Some(word) = list[at].word().filter(|word| ["match", "in"].contains(word)) {
+            let end = block_after(self.sources, list, at).unwrap_or(list.len());
+            if self.has_table(&list[at + 1..end]) {
+                say(format!("a table of values stands after `{word}`"));
+            }
+        }
+        let lent = at > 0 && arguments(list, at - 1).is_some();
+        let indexed = list.get(at + 1).is_some_and(|next| next.group('[').is_some() || next.is_sign("."));
+        if !lent && indexed && self.has_table(list[at].inner().unwrap_or_default()) {
+            say("a table of values in brackets is not followed".to_string());
+        }
+        let is_part = list.get(at + 1).and_then(|next| next.group('[')).is_some_and(is_range);
+        let after = &list[(at + 1 + usize::from(is_part)).min(list.len())..];
+        let is_table = list[at].word().is_some_and(|word| self.tables.contains(&word));
+        if is_table && begins(after, ".") && !begins(after, ". len (") {
+            say("something else than the length of a table of values is asked for".to_string());
         }
     }
 
@@ -146,6 +163,16 @@ impl View<'_> {
             if !takes && self.has_value(argument) {
                 say(format!("a value of a table is handed to `{name}`"));
             }
+        }
+    }
+
+    /// A method of a value, which may compare it with something.
+    fn report_method(&self, list: &[Tree], at: usize, say: &mut dyn FnMut(String)) {
+        let is_index = |tree: &&Tree| tree.group('[').is_some() || tree.group('(').is_some();
+        let after = &list[at + 1 + list[at + 1..].iter().take_while(is_index).count()..];
+        let calls = begins(after, ".") && after.get(2).is_some_and(|next| next.group('(').is_some());
+        if calls && self.reads(list, at) {
+            say("a method of a value of a table is called".to_string());
         }
     }
 

@@ -154,7 +154,7 @@ abbrev pub NothingDone : (t t′ : Tables) (old new : List ℕ) (filled : ℕ) �
 NothingDone t t′ old new filled = (t′ ≡ t) × ((filled ≡ 0) × (new ≡ old))
 
 -- bytes of a chunk, from a place on: those up to `to` are taken, and what they print stands in the first places of the
--- output
+-- output, as many as `filled` says
 pub record TakenEnsures (chunk : List ℕ) (from : ℕ) (h : Held) (old : List ℕ) (h′ : Held) (to : ℕ) (new : List ℕ) (filled : ℕ) : Type 0 where
   pub streams : Streams (slice from to chunk) h old 0 h′ new filled
   pub onward : from ≤ to
