@@ -23,7 +23,7 @@ use session::Tally;
 use std::io::{Read, Write};
 use std::path::PathBuf;
 use std::process::exit;
-use std::time::Instant;
+use std::time::{Duration, Instant};
 use subject::Subject;
 
 const DEFAULT_PROGRAM: &str = "target/bin/pchelodar";
@@ -161,10 +161,12 @@ fn compare(options: &Options) -> bool {
     covered
 }
 
-/// Shrinks and prints a failing session.
+/// Shrinks and prints a failing session. A program that hangs takes its time over every run: no more is tried after a
+/// minute.
 fn found(subject: &Subject, seed: u64, made: &generate::Session) {
     println!("outside: seed {seed} ({}) differs; shrinking", made.profile);
-    let input = shrink::shrink(&made.input, &|input| subject.differs(input), SHRINKING);
+    let until = Instant::now() + Duration::from_secs(60);
+    let input = shrink::shrink(&made.input, &|input| Instant::now() < until && subject.differs(input), SHRINKING);
     let outcome = subject.run(&input);
     let expected = subject::expected(&input);
     report::difference(&Difference { seed, made, input, expected, outcome });

@@ -31,9 +31,10 @@
  * Of the content of the slices nothing is asked. Where it did not come from a start by these calls, nothing undefined
  * happens, and nothing is written but the places above, the answers' own, `answered` and `totals`. Every call but start
  * is refused with 2 where more than 32 queries are counted, a used record has a field that register refuses (3 to 6) or
- * an origin above the count of readings, or two used records have one number. So it is, though it is not promised, where
- * numbers of the state are outside their bounds. Other damage may pass: calls are accepted then, and answers may be
- * wrong. So a copy of the slices that is kept, to go on from it later, wants a checksum of the caller's own. */
+ * an origin above the count of readings, two used records have one number, or a number of the state is outside the
+ * width of what it stands for. It is so too, though that is not promised, where numbers of the state are outside their
+ * bounds. Other damage may pass: calls are accepted then, and answers may be wrong. So a copy of the slices that is
+ * kept, to go on from it later, wants a checksum of the caller's own. */
 #ifndef PCHELODAR_H
 #define PCHELODAR_H
 

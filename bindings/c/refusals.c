@@ -1,6 +1,7 @@
 /* Every refusal, 1 to 11, from every call that can give it: the number that comes back is compared with document 01's
  * and with the name that the header gives it, and a refused call must have changed nothing. What the header says of
- * records and counts is asserted when this is compiled. Prints one line, or what failed, with status 1. */
+ * records, of counts and of what the functions take is asserted when this is compiled. Prints one line, or what failed,
+ * with status 1. */
 #include <inttypes.h>
 #include <stdio.h>
 #include <stdlib.h>

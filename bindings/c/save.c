@@ -54,7 +54,7 @@ static int restore(struct engine *e, FILE *file)
 
 static struct engine engine, restored;
 
-/* One reading by both engines: the same code, the same number of answers, the same answers. */
+/* One reading that both engines take: the same number of answers, the same answers. */
 static int same_reading(int32_t value)
 {
     int64_t a[PCHELODAR_QUERY_LIMIT * PCHELODAR_ANSWER_PLACES] = {0};
@@ -62,7 +62,7 @@ static int same_reading(int32_t value)
     size_t given_a = 0, given_b = 0;
     uint32_t code_a = pchelodar_reading(SLICES(&engine), PLACES(a), &given_a, value);
     uint32_t code_b = pchelodar_reading(SLICES(&restored), PLACES(b), &given_b, value);
-    return code_a == code_b && given_a == given_b && memcmp(a, b, sizeof a) == 0;
+    return code_a == 0 && code_b == 0 && given_a == given_b && memcmp(a, b, sizeof a) == 0;
 }
 
 /* Five queries and 6,000 readings, so that the rings have turned. */

@@ -120,7 +120,8 @@ fn main() {
     let (mut a, mut b) = ([Answer::default(); QUERY_LIMIT], [Answer::default(); QUERY_LIMIT]);
     for i in 0..5000 {
         let value = i * 4051 % 1013 - 500;
-        assert_eq!(engine.reading(value, &mut a), restored.reading(value, &mut b));
+        let given = engine.reading(value, &mut a).expect("it is taken");
+        assert_eq!(given, restored.reading(value, &mut b).expect("it is taken"));
     }
     assert_eq!(save(&engine), save(&restored));
 }

@@ -1,5 +1,5 @@
 //! A source as a tree of tokens: words, signs and bracketed groups, each with its line. Comments, strings, contracts
-//! and `ghost` items are left out.
+//! and `ghost use` items are left out.
 
 #[derive(Clone, Debug, PartialEq)]
 pub enum Kind {

@@ -1,6 +1,6 @@
 //! Rule `values`: what is read from a table of values (`follow.rs`) is compared by `compare` alone. It may be returned,
 //! stored in a table of values or in the answers, and kept in a field, where it is followed. It may not stand beside a
-//! comparison sign, in `deque` and `engine` beside no arithmetic operator, decide an `if`, a `match` or a loop, be an
+//! comparison sign, in `deque` and `engine` beside an arithmetic operator, decide an `if`, a `match` or a loop, be an
 //! index, or be handed to any function but `compare` and those of `HANDED`. A table keeps its name, and of its methods
 //! `len` alone is called; so it is with the answer places (`answers.rs`). For the extremes of the open partial, which
 //! are compared with readings, see `open_partial.rs`.

@@ -82,9 +82,9 @@ pub record AfterRead (r : Read) (h h′ : Held) (p : Progress) : Type 0 where
 
 -- ---- all reads
 
--- so many reads, one after the other, each of which brought a byte or more: all bytes that they brought, in order. Which
--- reads they were no contract can say, since that of `read` does not: that they are those of standard input, one after
--- the other, is read off `read_all`
+-- so many reads, one after the other, each of which brought a byte or more: all bytes that they brought, in order.
+-- Which reads they were no contract can say, since that of `read` does not: that they are those of standard input, one
+-- after the other, is read off `read_all`
 pub data Intake : ℕ → List ℕ → Type 0 where
   none : Intake 0 []
   next : {n : ℕ} {bytes : List ℕ} → Intake n bytes → (r : Read) → 0 < size r → Intake (n + 1) (bytes ++ brought r)
@@ -134,8 +134,8 @@ Handed lent h progress.TooLong = ReachedLimit lent h
 
 -- ---- the whole run
 
--- conclude, by how the reads ended and what the last write said: where the input ended that was the write of the totals,
--- and any other end stays as it is
+-- conclude, by how the reads ended and what the last write said: where the input ended that was the write of the
+-- totals, and any other end stays as it is
 abbrev pub afterReads : Progress → Bool → Progress
 afterReads progress.Onward said = progress.Onward
 afterReads progress.InputEnded said = afterWrite said progress.InputEnded
@@ -143,8 +143,8 @@ afterReads progress.ReadFailed said = progress.ReadFailed
 afterReads progress.WriteFailed said = progress.WriteFailed
 afterReads progress.TooLong said = progress.TooLong
 
--- a run to its end, which leaves the tables and the output like this: the session of all bytes that the reads brought,
--- opened on these tables, is whole
+-- a run to its end, which leaves the tables and the output like this: the session of all bytes that were fed, opened on
+-- these tables, is whole
 pub record RanReads (lent left : Tables) (new : List ℕ) : Type 0 where
   pub number : ℕ
   pub bytes : List ℕ
@@ -166,6 +166,6 @@ Concluded lent left new progress.ReadFailed = BrokenOff (ReachedReads lent) left
 Concluded lent left new progress.WriteFailed = Unit {0}
 Concluded lent left new progress.TooLong = BrokenOff (ReachedLimit lent) left
 
--- the claim about such a run: what was put into the output, in all, is the session of all that the reads brought
+-- the claim about such a run: what was put into the output, in all, is the session of all bytes that were fed
 abbrev pub WholeRun : Type 0
 WholeRun = (lent left : Tables) (new : List ℕ) (r : RanReads lent left new) → r .ran .output ≡ sessionOutput (r .bytes)

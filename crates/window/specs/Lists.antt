@@ -17,7 +17,8 @@ module _ {A : Type 0} where
   any p [] = false
   any p (x ∷ xs) = p x || any p xs
 
-  -- the lists one after the other; laws use it, and the cases of `session`, to say that partials make up a window
+  -- the lists one after the other; laws use it to say that partials make up a window, and the cases of `session` to put
+  -- lines together
   abbrev pub joined : List (List A) → List A
   joined [] = []
   joined (xs ∷ more) = xs ++ joined more
