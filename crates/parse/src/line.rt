@@ -10,7 +10,7 @@ use crate::numbers::unsigned_number;
 use window::refusal::Refusal;
 ghost use mathlib.Core.Path.{_≡_};
 ghost use Rattle.parse.specs.Fields.{bytesOf, InLine, fieldsFrom};
-ghost use Rattle.parse.specs.Numbers.{unsignedOf, signedOf};
+ghost use Rattle.parse.specs.Numbers.{unsignedOf};
 ghost use Rattle.parse.specs.Lines.{nameOf, parsed, registerLine, withdrawLine, readingLine, fourNumbers, oneNumber, oneSigned};
 
 // The longest line, in bytes before its end.

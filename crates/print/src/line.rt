@@ -7,7 +7,7 @@ ghost use lib.ListN.{length};
 ghost use Rattle.print.specs.Put.{Put};
 ghost use Rattle.print.specs.Lines.{answerLine, refusalLine, totalsLine, answerRoom, refusalRoom, totalsRoom};
 
-// What the longest A line and the longest T line take, in bytes.
+// No A line and no T line takes more, in bytes.
 pub const ANSWER_ROOM: usize = 108;
 
 pub const TOTALS_ROOM: usize = 86;

@@ -7,7 +7,7 @@ use mathlib.Core.Bool.{Bool, true, false}
 use mathlib.Core.List.{List, [], _++_, append-assoc, append-nil}
 use lib.Dec.{ltb}
 use borrow.Author.Tests.{ltb-true, ltb-false}
-use lib.ListN.{length, take, length-append, length-take}
+use lib.ListN.{length, take, length-append}
 use lib.Seq.{slice, slice-empty, take-all}
 use Rattle.engine.specs.Tables.{Tables, tablesLong}
 use Rattle.session.specs.Meaning.{lineRoom}

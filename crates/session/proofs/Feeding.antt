@@ -30,7 +30,7 @@ use Rattle.session.specs.declared.kept.Kept.{Kept}
 use Rattle.session.specs.declared.stream.Session.{Session}
 use Rattle.session.specs.Meaning.{answerTable, lineStep, printed, lineRoom}
 use Rattle.session.specs.Stream.{Running, Streamed, lineEnded, lineExtended, fed, following, fedAll, keptLength, keptLine}
-use Rattle.session.specs.Contracts.{CallEnsures, Held, held, keeping, Shown, Says, lineLimit, LineEnsures, Streams}
+use Rattle.session.specs.Contracts.{CallEnsures, Held, held, keeping, Shown, Says, lineLimit, LineEnsures, Streams, NothingDone}
 use Rattle.session.proofs.Slices.{slice-is, slice-then}
 use Rattle.session.proofs.Streaming.{fed-append}
 
@@ -220,3 +220,4 @@ pub record Inside (chunk : List ℕ) (from : ℕ) (h₀ : Held) (old : List ℕ)
   pub asLong : length out ≡ length old
   pub few : h₀ .session .lines ≤ lineLimit → h .session .lines ≤ lineLimit
   pub table : length places ≡ answerTable
+  pub still : to ≡ from → (h .session ≡ h₀ .session) × NothingDone (h₀ .tables) (h .tables) old out at

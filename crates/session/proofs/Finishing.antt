@@ -12,7 +12,7 @@ use Rattle.window.specs.Calls.{Outcome}
 use Rattle.window.specs.Model as model
 use Rattle.window.proofs.Lists.{and-left, and-right}
 use Rattle.engine.specs.declared.state.State.{State}
-use Rattle.registry.specs.Records.{used}
+use Rattle.registry.specs.Records.{used, Tidy}
 use Rattle.engine.specs.Tables.{Tables}
 use Rattle.engine.specs.States.{FreshState}
 use Rattle.engine.specs.Machine.{Machine, Represents}
@@ -30,13 +30,13 @@ use Rattle.session.specs.Contracts.{Held, held, sessionMachine, RefusesE
 
 -- ---- the first session
 
-pub started : (m m′ : Machine) (o : Outcome) (none : Kept) → FreshState (m .state) → used (m .queries) ≡ [] → none .length ≡ 0 → StartEnsures m o m′
+pub started : (m m′ : Machine) (o : Outcome) (none : Kept) → FreshState (m .state) → used (m .queries) ≡ [] → Tidy (m .queries) → none .length ≡ 0 → StartEnsures m o m′
     → OpenEnsures (m .tables) (held (record { state = m′ .state; queries = m′ .queries; lines = 0; kept = none }) (m′ .tables))
-started m m′ o none fresh empty e p =
+started m m′ o none fresh empty tidy e p =
     record {
       shows = λ l. record { represents = p .represents l; lines = refl; line = no-byte-kept };
       zeroes = p .zeroes;
-      short = λ s. subst (λ (x : Machine). (x .tables ≡ m .tables) × (FreshState (x .state) × (used (x .queries) ≡ []))) (sym (p .unchanged 1 (p .short s))) (refl, (fresh, empty));
+      short = λ s. subst (λ (x : Machine). (x .tables ≡ m .tables) × (FreshState (x .state) × ((used (x .queries) ≡ []) × Tidy (x .queries)))) (sym (p .unchanged 1 (p .short s))) (refl, (fresh, (empty, tidy)));
       few = refl;
       none = no-byte-kept;
     }
@@ -133,11 +133,12 @@ finishes h h′ old mid new next filled told passed last room size (text, end) =
       puts = puts-then (last .puts) (record { bytes = _; put = text });
       fits = omega (arith, last .room, end, size);
       kept = last .kept;
+      untouched = λ r sh e. ap (λ (x : Held). x .tables) ((last .none r sh e) .0);
     }
   where
-    says : (r : Running) → Shown r h → h .session .lines ≤ lineLimit → (b : Bool) → begun (r .line) ≡ b → Put old 0 (ended r) new filled
+    says : (r : Running) → Shown r h → (begun (r .line) ≡ true → h .session .lines ≤ lineLimit) → (b : Bool) → begun (r .line) ≡ b → Put old 0 (ended r) new filled
     says r sh few true e =
-        let line : Says (lineEnded r) h′ old 0 mid next = last .line r sh few e in
+        let line : Says (lineEnded r) h′ old 0 mid next = last .line r sh (few e) e in
         put-as (sym (ended-by r true e)) (put-then (line .text) (put-as (totals-are _ (sessionMachine h′) (line .shown .represents)) text))
     says r sh few false e =
         let none : (h′ ≡ h) × Put old 0 [] mid next = last .none r sh e in
@@ -153,4 +154,5 @@ no-finish h old never =
       puts = puts-none old 0;
       fits = omega arith;
       kept = tables-same (h .tables);
+      untouched = λ r sh e. refl;
     }

@@ -1,6 +1,6 @@
 -- Where the engine refuses every call a session takes nothing; where a state of the model is represented it never does.
 -- Assumes nothing.
-use Prim.Native.Nat.{ℕ, _≤_, _<_}
+use Prim.Native.Nat.{ℕ}
 use native.Mathlib.Omega.{arith}
 use mathlib.Core.Path.{_≡_, refl, sym, ap, _∙_}
 use mathlib.Core.Bool.{Bool, true, false, not, _||_, true≢false}
@@ -8,18 +8,17 @@ use mathlib.Core.List.{List, [], _∷_}
 use lib.ListN.{length}
 use Rattle.window.specs.declared.refusal.Refusal.{Refusal}
 use Rattle.window.specs.Refusals.{refusalNumber}
-use Rattle.window.specs.Calls.{totals, Outcome, accepted, refused}
+use Rattle.window.specs.Calls.{totals, refused}
 use Rattle.window.specs.Model as model
 use Rattle.window.specs.Model.{count, step, totalsOf}
 use Rattle.window.proofs.Steps.{accepted-refused}
 use Rattle.engine.specs.declared.calls.TotalsReply.{TotalsReply}
 use Rattle.engine.specs.declared.calls.TotalsReply.the-variants.{Totals, Refused}
 use Rattle.engine.specs.Tables.{tablesLong}
-use Rattle.engine.specs.Machine.{Machine, Represents}
+use Rattle.engine.specs.Machine.{Machine}
 use Rattle.engine.specs.Outcomes.{totalsOutcome}
 use Rattle.engine.specs.Contracts.{Ensures, listDamaged}
-use Rattle.session.specs.Stream.{Running}
-use Rattle.session.specs.Contracts.{Held, sessionMachine, refusesAll, RefusesEnsures, Shown, LinesEnsures, FeedEnsures}
+use Rattle.session.specs.Contracts.{Held, sessionMachine, refusesAll, RefusesEnsures, LinesEnsures, FeedEnsures}
 use Rattle.session.proofs.Feeding.{streams-none}
 
 -- ---- what totals tells
@@ -52,9 +51,9 @@ module _ {chunk : List ℕ} {from : ℕ} {h : Held} {old : List ℕ} {refuses : 
   pub not-fed : refuses ≡ true → FeedEnsures chunk from h old h from old 0
   not-fed e =
       record {
-        taken = record { streams = streams-none chunk from h old 0; onward = omega arith; inside = λ l. l; beyond = λ l. refl; few = λ l. l; fits = omega arith };
+        taken = record { streams = streams-none chunk from h old 0; onward = omega arith; inside = λ l. l; beyond = λ l. refl; few = λ l. l; fits = omega arith; still = λ s. (refl, (refl, (refl, refl))) };
         stops = λ r sh. absurd (true≢false (sym e ∙ told .never (r .position .state) (sh .represents)));
-        refuses = λ q. (refl, (refl, (refl, (refl, refl))));
+        refuses = λ q. refl;
       }
 
   -- one line after the other

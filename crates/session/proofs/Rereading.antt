@@ -1,4 +1,4 @@
--- Numbers are printed as they are read: a printed number, read again, is that number.
+-- Numbers are printed as they are read: a printed number, read again within the width that is read, is that number.
 -- Assumes nothing.
 use mathlib.Core.Path.{_≡_, refl, sym, ap, _∙_}
 use Prim.Native.Nat.{ℕ, zero, suc, _+_, _*_, _-_, _/_, _%_, _≤_, _<_}

@@ -48,6 +48,6 @@ pub whole-session : WholeSession
 whole-session input output ran =
     let fed : After opened input (ran .text) (ran .last) = begun-all (ran .begun) in
     ran .all
-    ∙ ap (λ (t : List ℕ). ran .text ++ t) (front (ran .finish .says ((fedAll opened input) .running) (fed .shown) (fed .few) (ran .room)))
+    ∙ ap (λ (t : List ℕ). ran .text ++ t) (front (ran .finish .says ((fedAll opened input) .running) (fed .shown) (λ e. fed .few) (ran .room)))
     ∙ ap (λ (t : List ℕ). t ++ ended ((fedAll opened input) .running)) (fed .text)
     ∙ whole-input input

@@ -16,7 +16,7 @@ use Rattle.window.specs.Model as model
 use Rattle.engine.specs.declared.calls.Answered.{Answered}
 use Rattle.engine.specs.declared.calls.Answered.the-variants as answered
 use Rattle.engine.specs.declared.calls.Reply.{Reply}
-use Rattle.registry.specs.Records.{used}
+use Rattle.registry.specs.Records.{used, Tidy}
 use Rattle.engine.specs.Tables.{Tables, tablesLong, TablesKept}
 use Rattle.engine.specs.States.{FreshState}
 use Rattle.engine.specs.Machine.{Machine, machine, Represents}
@@ -101,7 +101,7 @@ pub record Says (s : Streamed) (h : Held) (old : List ℕ) (at : ℕ) (new : Lis
 
 -- ---- one line
 
--- how many lines are numbered before the last: numbers have 64 bits and do not wrap
+-- how many lines can end: their numbers have 64 bits and do not wrap
 abbrev pub lineLimit : ℕ
 lineLimit = 18446744073709551614
 
@@ -145,7 +145,7 @@ pub record OpenEnsures (t : Tables) (h : Held) : Type 0 where
   pub shows : tablesLong t ≡ true → Shown opened h
   pub zeroes : tablesLong t ≡ true → h .tables ≡ zeroedTables t
   -- tables that do not pass it stay as they are; the session is that of an engine that took no call
-  pub short : tablesLong t ≡ false → (h .tables ≡ t) × (FreshState (h .session .state) × (used (h .session .queries) ≡ []))
+  pub short : tablesLong t ≡ false → (h .tables ≡ t) × (FreshState (h .session .state) × ((used (h .session .queries) ≡ []) × Tidy (h .session .queries)))
   pub few : h .session .lines ≡ 0
   pub none : keptLine (h .session .kept) ≡ []
 
@@ -163,6 +163,8 @@ pub record TakenEnsures (chunk : List ℕ) (from : ℕ) (h : Held) (old : List �
   pub beyond : length chunk ≤ from → to ≡ from
   pub few : h .session .lines ≤ lineLimit → h′ .session .lines ≤ lineLimit
   pub fits : filled ≤ length new
+  -- where no byte is taken, nothing changes
+  pub still : to ≡ from → (h′ .session ≡ h .session) × NothingDone (h .tables) (h′ .tables) old new filled
 
 -- one line after the other: bytes are left only where there is no room for what a line prints at most, or the lines
 -- have come to their limit
@@ -175,8 +177,8 @@ pub record FeedEnsures (chunk : List ℕ) (from : ℕ) (h : Held) (old : List �
   pub taken : TakenEnsures chunk from h old h′ to new filled
   -- a session takes all bytes that it has room and line numbers for
   pub stops : (r : Running) → Shown r h → to < length chunk → filled + lineRoom ≤ length old → lineLimit ≤ h′ .session .lines
-  -- where the engine would refuse every call, no byte is taken, nothing is printed and nothing changes
-  pub refuses : refusesAll (sessionMachine h) ≡ true → (to ≡ from) × ((h′ .session ≡ h .session) × NothingDone (h .tables) (h′ .tables) old new filled)
+  -- where a table is too short, or the query list is damaged as document 01 lists it, no byte is taken
+  pub refuses : refusesAll (sessionMachine h) ≡ true → to ≡ from
 
 -- what the end of the input prints at most
 abbrev pub finishRoom : ℕ
@@ -192,11 +194,14 @@ pub record LastEnsures (h : Held) (old : List ℕ) (h′ : Held) (new : List ℕ
 
 -- finish: what the end of the input prints stands in the first places of the output
 pub record FinishEnsures (h : Held) (old : List ℕ) (t′ : Tables) (new : List ℕ) (filled : ℕ) : Type 0 where
-  pub says : (r : Running) → Shown r h → h .session .lines ≤ lineLimit → finishRoom ≤ length old → Put old 0 (ended r) new filled
-  -- where the output is too short, or the engine would refuse every call, nothing is printed and nothing changes
+  pub says : (r : Running) → Shown r h → (begun (r .line) ≡ true → h .session .lines ≤ lineLimit) → finishRoom ≤ length old → Put old 0 (ended r) new filled
+  -- where the output or a table is too short, or the query list is damaged as document 01 lists it, nothing is printed
+  -- and nothing changes
   pub short : length old < finishRoom → NothingDone (h .tables) t′ old new filled
   pub refuses : refusesAll (sessionMachine h) ≡ true → NothingDone (h .tables) t′ old new filled
   -- whatever was held: no other place of the output is written, and none beyond the first 4,096 of a table
   pub puts : PutSome old 0 new filled
   pub fits : filled ≤ length new
   pub kept : TablesKept (h .tables) t′
+  -- without a last line no table is written
+  pub untouched : (r : Running) → Shown r h → begun (r .line) ≡ false → t′ ≡ h .tables

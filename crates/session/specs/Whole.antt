@@ -1,7 +1,7 @@
 -- A whole session as one claim: for every input, however it is cut into chunks, what is written is the session's
 -- meaning over the reference model. `proofs/Whole.antt` proves it.
 -- Assumes nothing.
-use Prim.Native.Nat.{ℕ, _≤_, _<_}
+use Prim.Native.Nat.{ℕ, _≤_}
 use mathlib.Core.Path.{_≡_}
 use mathlib.Core.Bool.{true}
 use mathlib.Core.List.{List, [], _++_}
@@ -54,7 +54,7 @@ pub record Reached (lent : Tables) (input : List ℕ) (h : Held) : Type 0 where
   pub begun : Begun input text h
   pub on : begun .lent ≡ lent
 
--- opened on these tables and fed 2^64 - 2 bytes or more: as many as there are numbers for lines before the last
+-- opened on these tables and fed 2^64 - 2 bytes or more: as many as lines can end
 pub record ReachedLimit (lent : Tables) (h : Held) : Type 0 where
   pub input : List ℕ
   pub reached : Reached lent input h

@@ -27,7 +27,7 @@ pub const LINE_ROOM: usize = 32 * ANSWER_ROOM;
 // What the end of a session prints at most: a line, and the totals.
 pub const FINISH_ROOM: usize = LINE_ROOM + TOTALS_ROOM;
 
-// How many lines are numbered before the last.
+// How many lines can end: the numbers of lines have 64 bits and do not wrap.
 pub const LINE_LIMIT: u64 = 18_446_744_073_709_551_614;
 
 // What is known between two bytes of the input, beside the lent tables.
@@ -300,8 +300,8 @@ fn feed_lines(
 }
 
 // Takes bytes of a chunk from a place on, and puts what they print at the front of the output. It takes them all but
-// where the output has no more room for what a line may print, or the lines have come to their limit; and none where
-// the engine refuses every call.
+// where the output has no more room for what a line may print, or the lines have come to their limit; and none where a
+// table is too short or the query list is damaged. Where it takes none, nothing changes.
 pub fn feed(
     session: Session,
     starts: &mut [Count],
@@ -377,7 +377,8 @@ fn last_line(
 }
 
 // The end of the input: what a last line that has a byte prints, and the totals, at the front of the output. Nothing is
-// printed and nothing changes where the output has no room for them, or the engine refuses every call.
+// printed and nothing changes where the output has no room for them, a table is too short or the query list is damaged.
+// A last line that no number is left for, which no session from `open` on has, prints nothing.
 pub fn finish(
     session: Session,
     starts: &mut [Count],

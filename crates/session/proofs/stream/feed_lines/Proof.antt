@@ -22,7 +22,7 @@ abbrev μ-loop : tie.MeasureT-loop
 loop-holds : tie.Need-loop-holds Inv-loop μ-loop
 loop-holds c =
     let at-start = c .before .before .before .before .before in
-    record { streams = streams-none (at-start .args .chunk .now) (at-start .args .from) _ _ _; onward = omega arith; inside = λ h. h; beyond = λ h. refl; room = omega arith; asLong = refl; few = λ h. h; table = refl }
+    record { streams = streams-none (at-start .args .chunk .now) (at-start .args .from) _ _ _; onward = omega arith; inside = λ h. h; beyond = λ h. refl; room = omega arith; asLong = refl; few = λ h. h; table = refl; still = λ e. (refl, (refl, (refl, refl))) }
 
 goes-on-requires : tie.Need-goes-on-requires Inv-loop μ-loop
 goes-on-requires c κs = omega arith
@@ -63,6 +63,7 @@ loop-again c =
       asLong = lengths .1 .1 .1 .0 ∙ v .asLong;
       few = λ h. rest .few;
       table = lengths .0 ∙ v .table;
+      still = λ e. absurd (omega (arith, e, rest .onward, v .onward));
     }
 
 same-length : tie.Need-same-length Inv-loop μ-loop
@@ -90,7 +91,7 @@ returns : tie.Need-returns Inv-loop μ-loop
 returns c =
     let v = c .before .before .loop .inv in
     record {
-      taken = record { streams = v .streams; onward = v .onward; inside = v .inside; beyond = v .beyond; few = v .few; fits = v .room };
+      taken = record { streams = v .streams; onward = v .onward; inside = v .inside; beyond = v .beyond; few = v .few; fits = v .room; still = v .still };
       stops = λ l k. stopped _ _ _ _ _ (sym (c .before .goes-on .ensures) ∙ c .if1 .left) l (omega (arith, k, v .asLong));
     }
 

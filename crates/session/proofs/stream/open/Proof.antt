@@ -38,7 +38,7 @@ returns : tie.Need-returns
 returns c =
     let at-start = c .before .before .before .before .before .before .before .before .before .before .before .before in
     let at-empty = at-start .before .before .before .before .before .before .before in
-    started _ _ _ _ (at-empty .before .fresh .ensures) (at-empty .empty .ensures .1 .0) (c .none .ensures) (at-start .start .ensures)
+    started _ _ _ _ (at-empty .before .fresh .ensures) (at-empty .empty .ensures .1 .0) (at-empty .empty .ensures .1 .1) (c .none .ensures) (at-start .start .ensures)
 
 pub open-spec : {M : Type 1} → statement M
 open-spec =
