@@ -24,7 +24,7 @@ const BODY: &str =
 /// Where deques are written out, of those crates that make comparisons or pass deques on: the empty one, and the one
 /// that a closing returns.
 const WRITERS: [&str; 2] = ["deque Deque::empty", CALLER];
-const WRITTEN_IN: [&str; 2] = ["deque", "engine"];
+const WRITTEN_IN: [&str; 3] = ["deque", "board", "engine"];
 
 pub fn rule(sources: &Sources) -> Vec<Finding> {
     let mut found = definitions(sources);

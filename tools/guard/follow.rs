@@ -11,13 +11,13 @@ use std::collections::BTreeSet;
 /// The names under which tables of values are lent, in every crate.
 pub const TABLES: [&str; 3] = ["values", "max_values", "min_values"];
 
-/// The one other name, which a parameter of this function of the engine has: it fills a table with zeroes.
+/// The one other name, which a parameter of this function of the board has: it fills a table with zeroes.
 pub const ZEROED: (&str, &str) = ("zero_values", "table");
 
 /// The answer places, which a value may be stored in, and the crates in which one that is read back is followed on.
 /// Above them answers are printed.
 pub const ANSWERS: &str = "answers";
-pub const ANSWERED_IN: [&str; 4] = ["deque", "engine", "lent", "pchelodar_c"];
+pub const ANSWERED_IN: [&str; 6] = ["deque", "board", "engine", "lent", "encoding", "pchelodar_c"];
 
 /// Functions that may be handed a value, with the parameter that takes it, which is followed there.
 pub const HANDED: [(&str, &str); 1] = [("engine put_answer", "value")];

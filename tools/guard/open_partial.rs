@@ -9,25 +9,25 @@ const FIELDS: [&str; 2] = ["maximum", "minimum"];
 
 /// Which function names them, and how often each of the two.
 const NAMED: [(&str, usize); 6] = [
-    ("engine Aggregate::first", 1),
+    ("board Aggregate::first", 1),
     (JOINED_BY, 3),
     (CLOSED_BY, 1),
-    ("pchelodar_c held_of", 2),
-    ("pchelodar_c held_in", 1),
-    ("pchelodar_c numbers_of", 1),
+    ("encoding held_of", 2),
+    ("encoding held_in", 1),
+    ("encoding numbers_of", 1),
 ];
 
 /// Where one reading more joins them, how that is written, and the function that compares them for it, which is called
 /// nowhere else in its crate.
-const JOINED_BY: &str = "engine Aggregate::extended";
+const JOINED_BY: &str = "board Aggregate::extended";
 const JOINED: [&str; 2] = [
     "let maximum = greater(Extreme::Maximum, self.maximum, value);",
     "let minimum = greater(Extreme::Minimum, self.minimum, value);",
 ];
-const GREATER: (&str, &str) = ("engine", "greater");
+const GREATER: (&str, &str) = ("board", "greater");
 
 /// Where they are handed to the closing steps, as `a.maximum`.
-const CLOSED_BY: &str = "engine State::close";
+const CLOSED_BY: &str = "board Board::close";
 const CLOSING: &str = "close";
 
 pub fn report(sources: &Sources, function: &Function, found: &mut Vec<Finding>) {

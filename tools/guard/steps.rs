@@ -6,7 +6,7 @@ use crate::tokens::mentions;
 
 /// Who calls a step, which one, and how often it stands there: `close` for the sums, the maxima and the minima.
 const STEPS: [(&str, &str, usize); 14] = [
-    ("engine State::close", "close", 3),
+    ("board Board::close", "close", 3),
     ("engine State::close_open", "close", 1),
     ("engine register", "close_open", 1),
     ("engine reading", "close_open", 1),

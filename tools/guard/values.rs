@@ -18,7 +18,7 @@ const KIT: [&str; 6] = ["std", "check", "libc", "io", "os", "bytes"];
 /// one.
 const ARITHMETIC: [&str; 20] =
     ["+", "-", "*", "/", "%", "&", "|", "^", "<<", ">>", "+=", "-=", "*=", "/=", "%=", "&=", "|=", "^=", "<<=", ">>="];
-const NO_ARITHMETIC_IN: [&str; 2] = ["deque", "engine"];
+const NO_ARITHMETIC_IN: [&str; 3] = ["deque", "board", "engine"];
 
 pub fn rule(sources: &Sources) -> Vec<Finding> {
     let facts = Facts::of(sources);
@@ -44,7 +44,7 @@ fn table_names(sources: &Sources, file: &File, list: &[Tree], zeroed: bool, foun
             let what = format!("a slice or array of i32 named {}: no name of a table of values", shown(name));
             found.push(Finding::new(&file.path, list[at].line, what));
         }
-        let zeroes = at > 1 && list[at - 2].is_word("fn") && list[at - 1].is_word(ZEROED.0) && file.krate == "engine";
+        let zeroes = at > 1 && list[at - 2].is_word("fn") && list[at - 1].is_word(ZEROED.0) && file.krate == "board";
         table_names(sources, file, list[at].inner().unwrap_or_default(), zeroes, found);
     }
 }

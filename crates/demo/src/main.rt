@@ -13,7 +13,7 @@ use crate::script::call_of;
 use deque::ring::CAPACITY;
 use engine::state::State;
 use registry::queries::Queries;
-use window::query::Count;
+use window::count::Count;
 
 // A reading with an answer table of so many places.
 fn reading_into(
@@ -176,11 +176,11 @@ fn play(
 
 // Each list in turn, with a blank line between two.
 fn main() {
-    let mut starts = [0u32; CAPACITY];
+    let mut starts: [Count; CAPACITY] = [0; CAPACITY];
     let mut sums = [0i64; CAPACITY];
-    let mut max_starts = [0u32; CAPACITY];
+    let mut max_starts: [Count; CAPACITY] = [0; CAPACITY];
     let mut max_values = [0i32; CAPACITY];
-    let mut min_starts = [0u32; CAPACITY];
+    let mut min_starts: [Count; CAPACITY] = [0; CAPACITY];
     let mut min_values = [0i32; CAPACITY];
     let mut answers = [0i64; PLACES];
     let state = State::fresh();

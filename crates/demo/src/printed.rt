@@ -5,7 +5,8 @@ use engine::calls::Answered;
 use engine::calls::TotalsReply;
 use engine::state::State;
 use registry::queries::Queries;
-use window::query::Count;
+use window::count::Count;
+use window::count::wide;
 use window::refusal::Verdict;
 
 // What goes from call to call by value.
@@ -202,8 +203,8 @@ pub fn totals(
         min_values,
     ) {
         TotalsReply::Totals(n, p, m, k) => {
-            show::number(n as u64);
-            show::number(p as u64);
+            show::number(wide(n));
+            show::number(wide(p));
             show::number(m);
             show::number(k);
         }

@@ -4,4 +4,3 @@ pub mod Stores
 pub mod Trimming
 pub mod Closing
 pub mod Laps
-pub mod Bridge

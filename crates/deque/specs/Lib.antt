@@ -1,4 +1,3 @@
 pub mod Rings
 pub mod Extremes
 pub mod Sums
-pub mod Retained

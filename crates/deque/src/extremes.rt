@@ -3,7 +3,7 @@
 use crate::compare::Extreme;
 use crate::compare::compare;
 use crate::ring::Ring;
-use window::query::Count;
+use window::count::Count;
 ghost use mathlib.Core.Path.{_≡_};
 ghost use mathlib.Core.List.{List, []};
 ghost use Prim.Native.Nat.{ℕ, _+_, _<_, _≤_, _^_};

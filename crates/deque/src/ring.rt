@@ -1,6 +1,7 @@
 // A ring over the first 4,096 places of lent tables: where its entries stand, evicting the oldest, and searching by
 // start.
-use window::query::Count;
+use window::count::Count;
+use window::count::size;
 ghost use mathlib.Core.Path.{_≡_};
 ghost use mathlib.Core.Bool.{true};
 ghost use Prim.Native.Nat.{_-_, _<_, _≤_};
@@ -121,7 +122,7 @@ impl Ring {
         if from <= oldest {
             return 0;
         }
-        let steps = (from - oldest) as usize;
+        let steps = size(from - oldest);
         if steps < self.len { steps } else { self.len }
     }
 

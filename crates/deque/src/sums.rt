@@ -1,8 +1,7 @@
 // The closed partials with their sums, on a table of starts and one of sums. The table of sums holds at each place the
 // sum of the partials before it in its lap, so that the sum of a window is one subtraction.
-use crate::ring::CAPACITY;
 use crate::ring::Ring;
-use window::query::Count;
+use window::count::Count;
 ghost use mathlib.Core.Path.{_≡_};
 ghost use mathlib.Core.Bool.{true};
 ghost use mathlib.Core.List.{List, [], _∷_, _++_, map};

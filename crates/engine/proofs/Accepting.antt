@@ -4,12 +4,8 @@ use mathlib.Core.Path.{_≡_, refl, sym, ap, _∙_, subst}
 use mathlib.Core.Bool.{Bool, true, false, true≢false, not}
 use mathlib.Core.List.{List, [], _∷_, _++_, map}
 use Prim.Native.Nat.{ℕ, _+_, _*_}
-use native.Mathlib.Omega.{arith}
-use lib.Dec.{leb}
-use borrow.Author.Tests.{le-leb}
-use Rattle.deque.specs.Rings.{capacity}
-use lib.IntN.{ℤ, pos}
-use lib.ListN.{length, length-append, drop, replicate, length-replicate}
+use lib.IntN.{ℤ}
+use lib.ListN.{length, length-append, length-map, drop}
 use Rattle.window.specs.declared.query.Query.{Query}
 use Rattle.window.specs.declared.refusal.Verdict.{Verdict}
 use Rattle.window.specs.declared.refusal.Verdict.the-variants.{Passed}
@@ -29,28 +25,23 @@ use Rattle.engine.specs.declared.partial.Open.the-variants.{Empty}
 use Rattle.engine.specs.declared.calls.Answered.{Answered}
 use Rattle.engine.specs.declared.calls.ReadingReply.{ReadingReply}
 use Rattle.engine.specs.declared.state.State.{State}
-use Rattle.engine.specs.Tables.{Tables, tablesLong, enough, zeroed, TablesKept}
-use Rattle.engine.specs.States.{Intact, Judged, FreshState, withReading, withPartial, openWhileAny}
+use Rattle.board.specs.Tables.{Tables, tablesLong, zeroedTables, TablesKept}
+use Rattle.engine.specs.States.{Judged, FreshState, withReading, withPartial, openWhileAny}
 use Rattle.engine.specs.Closings.{OpenClosed, ClosedWhere}
-use Rattle.engine.specs.Answers.{places, answeredPlaces, answersIn, answerFrom, InOrder}
-use Rattle.engine.specs.Machine.{Machine, machine, ListIs, StateIs, Represents}
+use Rattle.engine.specs.Answers.{places, answeredPlaces, answersIn, answerIn, Backing}
+use Rattle.engine.specs.Machine.{Machine, machine, closedOf, ledgerOf, ListIs, StateIs, Represents}
 use Rattle.engine.specs.Outcomes.{readingOutcome}
-use Rattle.engine.specs.Contracts.{Ensures, placesAfter, ReadingEnsures, zeroedTables, StartEnsures}
+use Rattle.engine.specs.Contracts.{verdictOf, Passes, Ensures, ReadingEnsures, StartEnsures}
 use Rattle.engine.proofs.Refinement.{read-is}
 use Rattle.engine.proofs.Registration.{registered-is, withdrawn-is, fresh-is}
-use Rattle.engine.proofs.Answering.{in-order, answers-are}
-use Rattle.engine.proofs.Stepping.{verdictOf, acceptedStep, step-judged, same-verdict}
-use Rattle.engine.proofs.Keeping.{tables-same, kept-long, open-closed-kept, closed-where-kept}
+use Rattle.engine.proofs.Answering.{backing, answers-are}
+use Rattle.engine.proofs.Stepping.{acceptedStep, step-judged, same-verdict}
+use Rattle.board.proofs.Lending.{tables-zeroed-long, tables-same, kept-long}
+use Rattle.engine.proofs.Keeping.{open-closed-kept, closed-where-kept}
 use Rattle.engine.proofs.Judging.{judged-passed}
 use Rattle.engine.proofs.Taking.{taken-count}
 
 -- ---- acceptances
-
--- a call other than start that every check passes
-pub record Passes (c : Call) (m : Machine) : Type 0 where
-  pub long : tablesLong (m .tables) ≡ true
-  pub intact : Intact (m .state) (m .queries)
-  pub own : verdictOf c (m .state .count) (used (m .queries)) ≡ Passed
 
 -- so it is where the verdict on checks 1, 2 and the call's own passes
 pub all-pass : (c : Call) (m : Machine) (long : Bool) (w : Verdict) → long ≡ tablesLong (m .tables)
@@ -85,6 +76,7 @@ accepted-call c m ns given m′ passes small kept lists state outcome =
       };
       unchanged = λ k j. accepted-refused ns given k j;
       own = λ k j. accepted-refused ns given k j;
+      accepts = λ p k j. accepted-refused ns given k j;
       kept = kept;
     }
 
@@ -147,13 +139,13 @@ accepted-withdraw number m st′ l′ passed few leaves tidy left =
 
 -- accepted totals
 pub accepted-totals : (m : Machine) → Passes totals m
-    → Ensures totals m (accepted (m .state .count ∷ m .state .closed ∷ m .state .maxima .comparisons ∷ m .state .minima .comparisons ∷ []) []) m
+    → Ensures totals m (accepted (m .state .count ∷ m .state .board .closed ∷ m .state .board .maxima .comparisons ∷ m .state .board .minima .comparisons ∷ []) []) m
 unfolding totalsOf
 accepted-totals m passed =
     accepted-call totals m _ [] m passed tt (tables-same (m .tables))
     (λ s rep. rep .queries)
     (λ s rep. rep .state)
-    (λ s rep. rw (rep .state .count, rep .state .closed, rep .state .maxComparisons, rep .state .minComparisons))
+    (λ s rep. rw (rep .state .count, rep .state .board .closed ∙ length-map (s .closed) (closedOf (s .readings)), rep .state .board .maxTotal, rep .state .board .minTotal))
 
 -- ---- a reading
 
@@ -167,7 +159,7 @@ pub record ReadingTaken (v : ℤ) (before after : List ℤ) (m : Machine) (k : �
   pub closed : ClosedWhere (any (edge (m .state .count + 1)) (used (m .queries))) (horizon (m .state .count + 1) (used (m .queries))) (withReading v (m .state)) (m .tables) st′ t′
   pub number : length given ≡ k
   pub written : after ≡ answeredPlaces given before
-  pub answers : InOrder st′ t′ → given ≡ map (answerFrom st′ t′) (dueAt (st′ .count) (used (m .queries)))
+  pub answers : (x : Backing (st′ .count) (used (m .queries)) (st′ .board) t′) → given ≡ map (answerIn (x .ledger .closed) (st′ .count)) (dueAt (st′ .count) (used (m .queries)))
 
 -- where there is no edge nothing closes, and no query is due
 pub uncut-taken : (v : ℤ) (before : List ℤ) (m : Machine) (taken : State) → taken ≡ withReading v (m .state) → any (edge (m .state .count + 1)) (used (m .queries)) ≡ false
@@ -178,8 +170,8 @@ uncut-taken v before m taken is e =
       closed = subst (λ (b : Bool). ClosedWhere b (horizon (m .state .count + 1) (used (m .queries))) (withReading v (m .state)) (m .tables) taken (m .tables)) (sym e) (is, refl);
       number = refl;
       written = refl;
-      answers = λ o. sym (ap (λ (n : ℕ). map (answerFrom taken (m .tables)) (dueAt n (used (m .queries)))) (taken-count v (m .state) taken is)
-          ∙ ap (map (answerFrom taken (m .tables))) (none-due (m .state .count + 1) (used (m .queries)) e));
+      answers = λ x. sym (ap (λ (n : ℕ). map (answerIn (x .ledger .closed) (taken .count)) (dueAt n (used (m .queries)))) (taken-count v (m .state) taken is)
+          ∙ ap (map (answerIn (x .ledger .closed) (taken .count))) (none-due (m .state .count + 1) (used (m .queries)) e));
     }
 
 -- a reading that every check passes
@@ -218,30 +210,13 @@ accepted-reading v before after m k given st′ t′ passed small took reply ret
 
     same-answers : (s : model.State) → Represents s m → given ≡ answers (afterReading s v)
     same-answers s rep =
-        took .answers (in-order (afterReading s v) st′ t′ (is s rep))
-        ∙ ap (λ (qs : List Query). map (answerFrom st′ t′) (dueAt (st′ .count) qs)) (rep .queries .used ∙ sym (reading-queries s v))
-        ∙ answers-are (afterReading s v) st′ t′ (subst (λ (x : Stepped). Invariant (x .state)) (step-accepted c m passed s rep) (step-invariant s c (rep .invariant))) (is s rep)
+        let queries : used (m .queries) ≡ (afterReading s v) .queries = rep .queries .used ∙ sym (reading-queries s v) in
+        let i : StateIs (afterReading s v) st′ t′ = is s rep in
+        took .answers (backing (afterReading s v) st′ t′ (used (m .queries)) queries i)
+        ∙ ap (λ (qs : List Query). map (answerIn (ledgerOf (afterReading s v) .closed) (st′ .count)) (dueAt (st′ .count) qs)) queries
+        ∙ answers-are (afterReading s v) (st′ .count) (subst (λ (x : Stepped). Invariant (x .state)) (step-accepted c m passed s rep) (step-invariant s c (rep .invariant))) (i .count)
 
 -- ---- start
-
--- a table is long enough where its first 4,096 places are 0
-zeroed-long : {A : Type 0} (nought : A) (t : List A) → leb capacity (length (zeroed nought t)) ≡ true
-zeroed-long nought t =
-    le-leb capacity (length (zeroed nought t))
-    (omega (arith, length-append (replicate capacity nought) (drop capacity t), length-replicate capacity nought))
-
--- so all six are
-tables-zeroed-long : (t : Tables) → tablesLong (zeroedTables t) ≡ true
-unfolding enough
-tables-zeroed-long t =
-    rw (
-      zeroed-long 0 (t .starts),
-      zeroed-long (pos 0) (t .sums),
-      zeroed-long 0 (t .maxStarts),
-      zeroed-long (pos 0) (t .maxValues),
-      zeroed-long 0 (t .minStarts),
-      zeroed-long (pos 0) (t .minValues),
-    )
 
 -- an accepted start
 pub accepted-start : (m : Machine) (st : State) (l : Queries) (t′ : Tables) → tablesLong (m .tables) ≡ true → FreshState st

@@ -1,8 +1,9 @@
--- From state and tables that are the model's: the rings are in order, the answers of the due queries are the model's,
--- and from the horizon on the rings hold the live partials.
+-- From state and tables that are the model's: the answers of the due queries are the model's.
 -- Assumes nothing.
 use mathlib.Core.Path.{_≡_, refl, sym, ap, _∙_, subst}
-use mathlib.Core.Bool.{Bool, true, false, cond}
+use mathlib.Core.Bool.{Bool, true, false, true≢false, cond}
+use native.Mathlib.Omega.{arith}
+use borrow.Author.Tests.{ne-eqb, eqb-true}
 use mathlib.Core.List.{List, [], _∷_, map}
 use Prim.Native.Nat.{ℕ, _≤_}
 use lib.Dec.{eqb}
@@ -11,131 +12,86 @@ use lib.Signed.{leZ}
 use lib.ListN.{length}
 use Rattle.window.specs.declared.query.Query.{Query}
 use Rattle.window.specs.Lists.{Each}
-use Rattle.window.specs.Orders.{Order, geZ, sum, extreme}
-use Rattle.window.specs.Queries.{sumKind, countKind, maximumKind, due, windowStart, windowCount, horizon}
-use Rattle.window.specs.Partials.{Entry, entries, entriesFrom, partialsFrom, valueOf}
-use Rattle.window.specs.Standing.{standing, frontOf, evicted}
+use Rattle.window.specs.Orders.{geZ, sum, maximum, minimum}
+use Rattle.window.specs.Queries.{sumKind, countKind, maximumKind, due, windowStart, horizon}
+use Rattle.window.specs.Partials.{Partial, readingsOf, entries, partialsFrom, entriesFrom, valueOf}
 use Rattle.window.specs.Refusals.{dueAt}
 use Rattle.window.specs.Model as model
 use Rattle.window.specs.Model.{count, windowValue, window, answer, answers}
-use Rattle.window.specs.Invariant.{Ordered, Sorted, Invariant, FromPartials}
+use Rattle.window.specs.Invariant.{Invariant, FromPartials}
 use Rattle.window.proofs.Orders.{leZ-order, geZ-order}
 use Rattle.window.proofs.Queries.{horizon-le}
-use Rattle.window.proofs.Standing.{evicted-from}
-use Rattle.window.proofs.Tracking.{shape-ordered}
+use Rattle.window.proofs.Tiling.{entries-from}
 use Rattle.window.proofs.Windows.{due-from-partials}
-use Rattle.deque.specs.declared.extremes.Deque.{Deque}
-use Rattle.deque.specs.Extremes.{entriesOf}
-use Rattle.deque.specs.Sums.{partialsOf}
-use Rattle.deque.proofs.Bridge.{retained-sorted, retained-evicted, standing-retained-sorted, standing-retained-evicted, window-extreme, window-sum}
+use Rattle.board.specs.declared.aggregate.Aggregate.{Aggregate}
+use Rattle.board.specs.Tables.{Tables}
+use Rattle.board.specs.Aggregates.{sumOf, maximumOf, minimumOf, closedFrom}
+use Rattle.board.specs.Ledgers.{valueOver}
 use Rattle.engine.specs.declared.state.State.{State}
-use Rattle.engine.specs.Tables.{Tables}
-use Rattle.engine.specs.Answers.{answerWith, InOrder, valueFrom, answerFrom}
-use Rattle.engine.specs.Machine.{StandsOn, Holds, HoldsLive, StateIs}
+use Rattle.engine.specs.Answers.{answerWith, valueIn, answerIn, Backing}
+use Rattle.engine.specs.Machine.{closedOf, ledgerOf, StateIs}
+use Rattle.engine.proofs.Ledgers.{from-closed, values-closed}
 
-module _ (s : model.State) (st : State) (t : Tables) where
-  -- ---- the rings are in order
+module _ (s : model.State) (q : Query) (given : FromPartials s q) where
+  -- the values of what is closed from the window start on are those of the entries
+  values-are : (f : Aggregate → ℤ) (g : List ℤ → ℤ) → ((p : Partial) → f (closedOf (s .readings) p) ≡ g (readingsOf (s .readings) p))
+      → map f (closedFrom (windowStart (count s) q) (ledgerOf s .closed)) ≡ map valueOf (entriesFrom (windowStart (count s) q) (entries g (s .readings) (s .closed)))
+  values-are f g same =
+      let w : ℕ = windowStart (count s) q in
+      ap (map f) (from-closed (s .readings) w (s .closed))
+      ∙ values-closed (s .readings) f g same (partialsFrom w (s .closed))
+      ∙ ap (map valueOf) (sym (entries-from g (s .readings) w (s .closed)))
 
-  module _ (b : Holds s st t) (below : ℤ → ℤ → Bool) (starts : List ℕ) (values : List ℤ) (d : Deque) (k : StandsOn below (s .readings) (b .held) starts values d) where
-    -- the starts in a deque never fall
-    deque-sorted : Sorted (entriesOf starts values (d .ring))
-    deque-sorted =
-        subst Sorted (sym (k .entries))
-        (standing-retained-sorted below (extreme below) (s .readings) (horizon (count s) (s .queries)) (s .closed) (b .held) (count s) (b .retained))
-
-    -- from the horizon on it holds those that stand of the live partials
-    deque-live : entriesFrom (horizon (count s) (s .queries)) (entriesOf starts values (d .ring))
-        ≡ standing below (entries (extreme below) (s .readings) (partialsFrom (horizon (count s) (s .queries)) (s .closed)))
-    deque-live =
-        let h : ℕ = horizon (count s) (s .queries) in
-        sym (evicted-from h (entriesOf starts values (d .ring)) deque-sorted) ∙ ap (evicted h) (k .entries) ∙ standing-retained-evicted below (extreme below) (s .readings) h (s .closed) (b .held) (count s) (b .retained)
-
-  -- the starts of the partials with their sums never fall
-  sums-sorted : Holds s st t → Sorted (partialsOf (t .starts) (t .sums) (st .sums))
-  sums-sorted b = subst Sorted (sym (b .sums)) (retained-sorted sum (s .readings) (horizon (count s) (s .queries)) (s .closed) (b .held) (count s) (b .retained))
-
-  -- the starts in each ring never fall, and the table of sums is within its bounds
-  pub in-order : StateIs s st t → InOrder st t
-  in-order i =
-      let b : Holds s st t = i .board in
-      record {
-        sums = sums-sorted b;
-        bounds = b .bounds;
-        maxima = deque-sorted b leZ (t .maxStarts) (t .maxValues) (st .maxima) (b .maxima);
-        minima = deque-sorted b geZ (t .minStarts) (t .minValues) (st .minima) (b .minima);
-      }
-
-  -- ---- what is live on the board
-
-  -- from the horizon on the rings hold exactly the live closed partials, with starts and sums, and for each order those
-  -- that stand of them
-  pub board-live : Holds s st t → HoldsLive s st t
-  board-live b =
-      let h : ℕ = horizon (count s) (s .queries) in
-      record {
-        sums = sym (evicted-from h (partialsOf (t .starts) (t .sums) (st .sums)) (sums-sorted b)) ∙ ap (evicted h) (b .sums) ∙ retained-evicted sum (s .readings) h (s .closed) (b .held) (count s) (b .retained);
-        maxima = deque-live b leZ (t .maxStarts) (t .maxValues) (st .maxima) (b .maxima);
-        minima = deque-live b geZ (t .minStarts) (t .minValues) (st .minima) (b .minima);
-      }
-
-  -- ---- answers
-
-  module _ (i : StateIs s st t) (q : Query) (given : FromPartials s q) (l : horizon (count s) (s .queries) ≤ windowStart (count s) q) where
-    -- the count of readings in the window
-    count-is : windowCount (st .count) q ≡ length (window (s .readings) q)
-    count-is = ap (λ (n : ℕ). windowCount n q) (i .count) ∙ sym (given .counts)
-
-    -- the sum of the window
-    sum-is : sum (map valueOf (evicted (windowStart (st .count) q) (partialsOf (t .starts) (t .sums) (st .sums)))) ≡ sum (window (s .readings) q)
-    sum-is =
-        ap (λ (n : ℕ). sum (map valueOf (evicted (windowStart n q) (partialsOf (t .starts) (t .sums) (st .sums))))) (i .count)
-        ∙ ap (λ (es : List (Entry ℤ)). sum (map valueOf (evicted (windowStart (count s) q) es))) (i .board .sums)
-        ∙ window-sum s q given (horizon (count s) (s .queries)) (i .board .held) (count s) (i .board .retained) l
-
-    -- the extreme of the window, by every order
-    extreme-is : (below : ℤ → ℤ → Bool) → Order below → (starts : List ℕ) (values : List ℤ) (d : Deque) → StandsOn below (s .readings) (i .board .held) starts values d
-        → Ordered 0 (s .closed) (count s)
-        → frontOf (pos 0) (evicted (windowStart (st .count) q) (entriesOf starts values (d .ring))) ≡ extreme below (window (s .readings) q)
-    extreme-is below order starts values d k o =
-        ap (λ (n : ℕ). frontOf (pos 0) (evicted (windowStart n q) (entriesOf starts values (d .ring)))) (i .count)
-        ∙ ap (λ (es : List (Entry ℤ)). frontOf (pos 0) (evicted (windowStart (count s) q) es)) (k .entries)
-        ∙ window-extreme s q given (horizon (count s) (s .queries)) (i .board .held) (count s) (i .board .retained) l below order (count s) o
-
-    -- the value of the window, whatever the kind
-    value-is : Ordered 0 (s .closed) (count s) → valueFrom st t q ≡ windowValue (q .kind) (window (s .readings) q)
-    value-is o =
-        either (eqb (q .kind) sumKind) sum-is
-        (either (eqb (q .kind) countKind) (ap pos count-is)
-        (either (eqb (q .kind) maximumKind)
-        (extreme-is leZ leZ-order (t .maxStarts) (t .maxValues) (st .maxima) (i .board .maxima) o)
-        (extreme-is geZ geZ-order (t .minStarts) (t .minValues) (st .minima) (i .board .minima) o)))
-      where
-        either : (b : Bool) {x x′ y y′ : ℤ} → x ≡ x′ → y ≡ y′ → cond b x y ≡ cond b x′ y′
-        either true e f = e
-        either false e f = f
-
-    -- the answer
-    answer-is : Ordered 0 (s .closed) (count s) → answerFrom st t q ≡ answer (s .readings) q
-    unfolding answerFrom answer
-    answer-is o = ap (λ (n : ℕ). answerWith q n (valueFrom st t q)) count-is ∙ ap (answerWith q (length (window (s .readings) q))) (value-is o)
-
-  -- the answers of the due queries, from the rings, are the model's
-  pub answers-are : Invariant s → StateIs s st t → map (answerFrom st t) (dueAt (st .count) (s .queries)) ≡ answers s
-  unfolding answers
-  answers-are v i =
-      ap (λ (n : ℕ). map (answerFrom st t) (dueAt n (s .queries))) (i .count)
-      ∙ each (s .queries) (due-from-partials s v) (horizon-le (count s) (s .queries))
+  -- the value of the window, whatever the kind
+  value-is : valueIn (ledgerOf s .closed) (count s) q ≡ windowValue (q .kind) (window (s .readings) q)
+  unfolding valueIn valueOver
+  value-is =
+      go (eqb (q .kind) sumKind) (eqb (q .kind) countKind) (eqb (q .kind) maximumKind) (λ e. ne-eqb (q .kind) countKind (λ f. two-not-one (sym (eqb-true (q .kind) sumKind e) ∙ f)))
+      (ap sum (values-are sumOf sum (λ p. refl)) ∙ sym (given .sums))
+      (ap pos (sym (given .counts)))
+      (ap maximum (values-are maximumOf maximum (λ p. refl)) ∙ sym (given .extremes leZ leZ-order))
+      (ap minimum (values-are minimumOf minimum (λ p. refl)) ∙ sym (given .extremes geZ geZ-order))
     where
-      o : Ordered 0 (s .closed) (count s)
-      o = shape-ordered (s .openStart) (count s) (s .queries) (s .closed) (v .shape)
+      two-not-one : sumKind ≡ countKind → ⊥
+      two-not-one e = omega arith
 
-      each : (qs : List Query) → Each (λ (q : Query). due (count s) q ≡ true → FromPartials s q) qs
-          → Each (λ (q : Query). horizon (count s) (s .queries) ≤ windowStart (count s) q) qs
-          → map (answerFrom st t) (dueAt (count s) qs) ≡ map (answer (s .readings)) (dueAt (count s) qs)
-      each [] f l = refl
-      each (q ∷ qs) f l = go (due (count s) q) refl (each qs (f .1) (l .1))
-        where
-          go : (b : Bool) → due (count s) q ≡ b → map (answerFrom st t) (dueAt (count s) qs) ≡ map (answer (s .readings)) (dueAt (count s) qs)
-              → map (answerFrom st t) (cond b (q ∷ dueAt (count s) qs) (dueAt (count s) qs)) ≡ map (answer (s .readings)) (cond b (q ∷ dueAt (count s) qs) (dueAt (count s) qs))
-          go true e ih = rw (answer-is i q (f .0 e) (l .0) o, ih)
-          go false e ih = ih
+      go : (b c d : Bool) → (b ≡ true → c ≡ false) → {u u′ v v′ x x′ y y′ : ℤ} → u ≡ u′ → v ≡ v′ → x ≡ x′ → y ≡ y′
+          → cond c v (cond b u (cond d x y)) ≡ cond b u′ (cond c v′ (cond d x′ y′))
+      go true true d n e f g h = absurd (true≢false (n refl))
+      go true false d n e f g h = e
+      go false true d n e f g h = f
+      go false false true n e f g h = g
+      go false false false n e f g h = h
+
+  -- the answer
+  answer-is : answerIn (ledgerOf s .closed) (count s) q ≡ answer (s .readings) q
+  unfolding answerIn answer
+  answer-is = ap (λ (n : ℕ). answerWith q n (valueIn (ledgerOf s .closed) (count s) q)) (sym (given .counts)) ∙ ap (answerWith q (length (window (s .readings) q))) value-is
+
+-- the board stands behind the answers
+abbrev pub backing : (s : model.State) (st : State) (t : Tables) (qs : List Query) → qs ≡ s .queries → StateIs s st t → Backing (st .count) qs (st .board) t
+backing s st t qs e i =
+    let h : ℕ = horizon (count s) (s .queries) in
+    record {
+      horizon = h;
+      ledger = ledgerOf s;
+      holds = i .board;
+      early = subst (λ (x : List Query). Each (λ (q : Query). h ≤ windowStart (st .count) q) x) (sym e)
+          (subst (λ (n : ℕ). Each (λ (q : Query). h ≤ windowStart n q) (s .queries)) (sym (i .count)) (horizon-le (count s) (s .queries)));
+    }
+
+-- the answers of the due queries, from what is closed, are the model's
+pub answers-are : (s : model.State) (n : ℕ) → Invariant s → n ≡ count s → map (answerIn (ledgerOf s .closed) n) (dueAt n (s .queries)) ≡ answers s
+unfolding answers
+answers-are s n v e =
+    ap (λ (k : ℕ). map (answerIn (ledgerOf s .closed) k) (dueAt k (s .queries))) e ∙ each (s .queries) (due-from-partials s v)
+  where
+    each : (qs : List Query) → Each (λ (q : Query). due (count s) q ≡ true → FromPartials s q) qs
+        → map (answerIn (ledgerOf s .closed) (count s)) (dueAt (count s) qs) ≡ map (answer (s .readings)) (dueAt (count s) qs)
+    each [] f = refl
+    each (q ∷ qs) f = go (due (count s) q) refl (each qs (f .1))
+      where
+        go : (b : Bool) → due (count s) q ≡ b → map (answerIn (ledgerOf s .closed) (count s)) (dueAt (count s) qs) ≡ map (answer (s .readings)) (dueAt (count s) qs)
+            → map (answerIn (ledgerOf s .closed) (count s)) (cond b (q ∷ dueAt (count s) qs) (dueAt (count s) qs)) ≡ map (answer (s .readings)) (cond b (q ∷ dueAt (count s) qs) (dueAt (count s) qs))
+        go true x ih = rw (answer-is s q (f .0 x), ih)
+        go false x ih = ih

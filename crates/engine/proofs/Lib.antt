@@ -1,7 +1,7 @@
 pub mod Aggregates
-pub mod Boards
 pub mod Places
 pub mod Closings
+pub mod Ledgers
 pub mod Refinement
 pub mod Registration
 pub mod Answering

@@ -4,22 +4,13 @@ use Prim.Native.Nat.{ℕ, suc, _+_, _*_, _≤_}
 use mathlib.Core.Path.{_≡_, refl, sym, ap, _∙_}
 use mathlib.Core.List.{List, [], _∷_, _++_, map, append-assoc, append-nil}
 use native.Mathlib.Omega.{arith}
-use borrow.Author.Tests.{eq-eqb, ne-eqb}
 use lib.IntN.{ℤ, pos}
 use lib.ListN.{length, take, drop, set, length-append, length-drop}
 use lib.Seq.{sets-eq, take-at, drop-append-add, drop-drop}
 use Rattle.window.specs.declared.query.Query.{Query}
-use Rattle.window.specs.Orders.{sum}
-use Rattle.window.specs.Queries.{sumKind, countKind, maximumKind, windowStart, windowCount}
-use Rattle.window.specs.Partials.{valueOf}
-use Rattle.window.specs.Standing.{evicted, frontOf}
 use Rattle.window.specs.Refusals.{answerPlaces}
 use Rattle.window.specs.Calls.{Answer}
-use Rattle.deque.specs.Extremes.{entriesOf}
-use Rattle.deque.specs.Sums.{partialsOf}
-use Rattle.engine.specs.declared.state.State.{State}
-use Rattle.engine.specs.Tables.{Tables}
-use Rattle.engine.specs.Answers.{answerWith, placesOf, places, putAt, answeredPlaces, valueFrom, answerFrom, InOrder}
+use Rattle.engine.specs.Answers.{answerWith, placesOf, places, putAt, answeredPlaces}
 
 -- ---- the places of an answer
 
@@ -75,21 +66,21 @@ answered-more given a t =
 
 -- with k of the due queries answered and `left` to come: the answer table, which held `before`, holds the answers so
 -- far, and these are the first k of those from the rings
-pub record AnsweredTo (st : State) (t : Tables) (due left : List Query) (before now : List ℤ) (k : ℕ) : Type 0 where
+pub record AnsweredTo {X : Type 0} (answer : X → Query → Answer) (due left : List Query) (before now : List ℤ) (k : ℕ) : Type 0 where
   pub given : List Answer
   pub number : length given ≡ k
   pub written : now ≡ answeredPlaces given before
   pub counted : k + length left ≡ length due
-  pub answers : InOrder st t → given ++ map (answerFrom st t) left ≡ map (answerFrom st t) due
+  pub answers : (x : X) → given ++ map (answer x) left ≡ map (answer x) due
 
-module _ (st : State) (t : Tables) (due : List Query) (before : List ℤ) where
+module _ {X : Type 0} (answer : X → Query → Answer) (due : List Query) (before : List ℤ) where
   -- none is answered at first
-  pub answered-none : AnsweredTo st t due due before before 0
+  pub answered-none : AnsweredTo answer due due before before 0
   answered-none = record { given = []; number = refl; written = refl; counted = omega arith; answers = λ o. refl }
 
   module _ (now : List ℤ) (k : ℕ) (room : answerPlaces * length due ≤ length before) where
     -- the table is as long as it was
-    pub answered-kept : (left : List Query) → AnsweredTo st t due left before now k → length now ≡ length before
+    pub answered-kept : (left : List Query) → AnsweredTo answer due left before now k → length now ≡ length before
     answered-kept left a =
         ap length (a .written)
         ∙ answered-length (a .given) before (within (length (a .given)) k (length left) (length due) (length before) (a .number) (a .counted) room)
@@ -97,7 +88,7 @@ module _ (st : State) (t : Tables) (due : List Query) (before : List ℤ) where
         within : (g k l d n : ℕ) → g ≡ k → k + l ≡ d → answerPlaces * d ≤ n → answerPlaces * g ≤ n
         within g k l d n e f h = omega arith
 
-    module _ (q : Query) (left : List Query) (a : AnsweredTo st t due (q ∷ left) before now k) where
+    module _ (q : Query) (left : List Query) (a : AnsweredTo answer due (q ∷ left) before now k) where
       -- there is room for the answer to a query that is to come
       pub answered-room : answerPlaces * k + answerPlaces ≤ length now
       answered-room = within k (length left) (length due) (length before) (length now) (a .counted) room (answered-kept (q ∷ left) a)
@@ -106,11 +97,8 @@ module _ (st : State) (t : Tables) (due : List Query) (before : List ℤ) where
           within k l d n m e h f = omega arith
 
       -- the answer to the next of them is written
-      pub answered-next : (count : ℕ) (value : ℤ) (after : List ℤ) → count ≡ windowCount (st .count) q → (InOrder st t → value ≡ valueFrom st t q)
-          → after ≡ putAt (answerPlaces * k) (answerWith q count value) now → AnsweredTo st t due left before after (k + 1)
-      unfolding answerFrom
-      answered-next count value after e f w =
-          let b : Answer = answerWith q count value in
+      pub answered-next : (b : Answer) (after : List ℤ) → ((x : X) → b ≡ answer x q) → after ≡ putAt (answerPlaces * k) b now → AnsweredTo answer due left before after (k + 1)
+      answered-next b after f w =
           let g : List Answer = a .given in
           record {
             given = g ++ (b ∷ []);
@@ -120,37 +108,15 @@ module _ (st : State) (t : Tables) (due : List Query) (before : List ℤ) where
                 ∙ ap (putAt (answerPlaces * length g) b) (a .written)
                 ∙ answered-more g b before;
             counted = one-on k (length left) (length due) (a .counted);
-            answers = λ o.
-                append-assoc g (b ∷ []) (map (answerFrom st t) left)
-                ∙ ap (λ (x : Answer). g ++ (x ∷ map (answerFrom st t) left)) (ap (λ (c : ℕ). answerWith q c value) e ∙ ap (answerWith q (windowCount (st .count) q)) (f o))
-                ∙ a .answers o;
+            answers = λ x.
+                append-assoc g (b ∷ []) (map (answer x) left)
+                ∙ ap (λ (y : Answer). g ++ (y ∷ map (answer x) left)) (f x)
+                ∙ a .answers x;
           }
         where
           one-on : (k l d : ℕ) → k + suc l ≡ d → (k + 1) + l ≡ d
           one-on k l d e = omega arith
 
   -- all are answered at the end
-  pub answered-all : (now : List ℤ) (k : ℕ) → (a : AnsweredTo st t due [] before now k) → (k ≡ length due) × (InOrder st t → a .given ≡ map (answerFrom st t) due)
-  answered-all now k a = (omega (arith, a .counted), λ o. sym (append-nil (a .given)) ∙ a .answers o)
-
--- ---- the value of a window
-
-module _ (st : State) (t : Tables) (q : Query) where
-  -- of a count
-  pub value-count : (q .kind ≡ sumKind → ⊥) → q .kind ≡ countKind → pos (windowCount (st .count) q) ≡ valueFrom st t q
-  value-count n₁ e = rw (ne-eqb (q .kind) sumKind n₁, eq-eqb (q .kind) countKind e) refl
-
-  module _ (from : ℕ) (w : from ≡ windowStart (st .count) q) where
-    -- of a sum
-    pub value-sum : q .kind ≡ sumKind → sum (map valueOf (evicted from (partialsOf (t .starts) (t .sums) (st .sums)))) ≡ valueFrom st t q
-    value-sum e = rw (w, eq-eqb (q .kind) sumKind e) refl
-
-    module _ (n₁ : q .kind ≡ sumKind → ⊥) (n₂ : q .kind ≡ countKind → ⊥) where
-      -- of a maximum
-      pub value-maximum : q .kind ≡ maximumKind → frontOf (pos 0) (evicted from (entriesOf (t .maxStarts) (t .maxValues) (st .maxima .ring))) ≡ valueFrom st t q
-      value-maximum e = rw (w, ne-eqb (q .kind) sumKind n₁, ne-eqb (q .kind) countKind n₂, eq-eqb (q .kind) maximumKind e) refl
-
-      -- of any other kind: a minimum
-      pub value-minimum : (q .kind ≡ maximumKind → ⊥)
-          → frontOf (pos 0) (evicted from (entriesOf (t .minStarts) (t .minValues) (st .minima .ring))) ≡ valueFrom st t q
-      value-minimum n₃ = rw (w, ne-eqb (q .kind) sumKind n₁, ne-eqb (q .kind) countKind n₂, ne-eqb (q .kind) maximumKind n₃) refl
+  pub answered-all : (now : List ℤ) (k : ℕ) → (a : AnsweredTo answer due [] before now k) → (k ≡ length due) × ((x : X) → a .given ≡ map (answer x) due)
+  answered-all now k a = (omega (arith, a .counted), λ x. sym (append-nil (a .given)) ∙ a .answers x)

@@ -14,63 +14,35 @@ use lib.ListN.{length, length-append, drop}
 use lib.Seq.{slice-empty, length-slice, take-length, drop-append-le}
 use borrow.Author.Tests.{le-ltb, lt-ltb}
 use Rattle.window.specs.Lists.{any, Each}
-use Rattle.window.specs.Orders.{aggregate, Order, greater, geZ, sum, extreme, maximum, minimum}
+use Rattle.window.specs.Orders.{aggregate, greater, geZ, sum, maximum, minimum}
 use Rattle.window.specs.Queries.{Limits, edge, horizon}
-use Rattle.window.specs.Partials.{Partial, spanning, Entry, between, entry, entries, partialsFrom}
-use Rattle.window.specs.Standing.{standing, evicted}
+use Rattle.window.specs.Partials.{spanning, between}
 use Rattle.window.specs.Model as model
-use Rattle.window.specs.Model.{count, closingComparisons, closeAt, closeWhere, holdsReading, readingTaken, closeAtEdge, afterReading}
+use Rattle.window.specs.Model.{count, closeAt, closeWhere, holdsReading, readingTaken, closeAtEdge, afterReading}
 use Rattle.window.specs.Invariant.{Ordered, Shape, Invariant}
 use Rattle.window.proofs.Orders.{leZ-order, geZ-order, greater-assoc, aggregate-append}
 use Rattle.window.proofs.Queries.{horizon-far, horizon-later}
-use Rattle.deque.specs.declared.extremes.Deque.{Deque}
-use Rattle.deque.specs.Rings.{capacity, entryWith, newest}
-use Rattle.deque.specs.Extremes.{closedWith, closingCost}
-use Rattle.deque.specs.Retained.{Retained}
-use Rattle.deque.proofs.Bridge.{room, retained-later, retained-rises, retained-closed, retained-stable, closed-entries, closed-standing, model-cost}
-use Rattle.engine.specs.declared.partial.Aggregate.{Aggregate}
+use Rattle.window.proofs.Tracking.{shape-ordered}
+use Rattle.deque.specs.Rings.{capacity}
+use Rattle.board.specs.declared.aggregate.Aggregate.{Aggregate}
+use Rattle.board.specs.Tables.{Tables}
+use Rattle.board.specs.Ledgers.{Ledger, ledger, closeWith}
+use Rattle.board.specs.Boards.{Holds}
+use Rattle.board.proofs.Holding.{holds-rises}
 use Rattle.engine.specs.declared.partial.Open.{Open}
 use Rattle.engine.specs.declared.partial.Open.the-variants.{Nothing, Empty, Holding}
 use Rattle.engine.specs.declared.state.State.{State}
 use Rattle.engine.specs.Open.{openWith}
-use Rattle.engine.specs.Tables.{Tables}
 use Rattle.engine.specs.States.{withReading}
-use Rattle.engine.specs.Closings.{DequeClosed, Closed, OpenClosed, ClosedWhere}
-use Rattle.engine.specs.Machine.{HoldingIs, OpenIs, StandsOn, Holds, StateIs}
+use Rattle.engine.specs.Closings.{Closed, OpenClosed, ClosedWhere}
+use Rattle.engine.specs.Machine.{HoldingIs, OpenIs, closedOf, ledgerOf, StateIs}
+use Rattle.engine.proofs.Ledgers.{closed-stable, closed-before, ledger-closed, aggregate-is}
 
 -- ---- a closing
 
 -- an open partial that holds readings is the model's
 pub holding-is : (s : model.State) (st : State) (t : Tables) (a : Aggregate) → StateIs s st t → st .partial ≡ Holding a → HoldingIs a s
 holding-is s st t a i e = subst (λ (o : Open). OpenIs o s) e (i .partial)
-
-module _ (below : ℤ → ℤ → Bool) (order : Order below) (s : model.State) (held : List Partial) (p : Partial) (y : Entry ℤ) (starts : List ℕ) (values : List ℤ) (d : Deque)
-    (starts′ : List ℕ) (values′ : List ℤ) (d′ : Deque)
-    (kept : Retained (horizon (count s) (s .queries)) (s .closed) held (count s)) (same : y ≡ entry (extreme below) (s .readings) p)
-    (stood : StandsOn below (s .readings) held starts values d)
-    (done : DequeClosed below y (horizon (count s) (s .queries)) starts values d starts′ values′ d′) where
-  -- after the closing of p a deque holds what stands of the live partials and p
-  deque-stands : length (partialsFrom (horizon (count s) (s .queries)) (s .closed)) < capacity
-      → StandsOn below (s .readings) (partialsFrom (horizon (count s) (s .queries)) (s .closed) ++ (p ∷ [])) starts′ values′ d′
-  deque-stands l =
-      let h : ℕ = horizon (count s) (s .queries) in
-      record {
-        fits = done .fits;
-        entries =
-            done .entries
-            ∙ ap (closedWith below y h) (stood .entries)
-            ∙ ap (λ (x : Entry ℤ). closedWith below x h (standing below (entries (extreme below) (s .readings) held))) same
-            ∙ closed-standing below order (extreme below) (s .readings) h (s .closed) held (count s) kept p l;
-      }
-
-  -- and its comparisons grew by those of the model's closing
-  deque-total : d′ .comparisons ≡ d .comparisons + closingComparisons below s p
-  deque-total =
-      let h : ℕ = horizon (count s) (s .queries) in
-      done .cost
-      ∙ ap (λ (xs : List (Entry ℤ)). d .comparisons + closingCost below y h xs) (stood .entries)
-      ∙ ap (λ (x : Entry ℤ). d .comparisons + closingCost below x h (standing below (entries (extreme below) (s .readings) held))) same
-      ∙ ap (λ (k : ℕ). d .comparisons + k) (model-cost below order s held (count s) p kept)
 
 -- the closing of the open partial is the model's
 pub closed-is : (s : model.State) (a : Aggregate) (st : State) (t : Tables) (st′ : State) (t′ : Tables) → StateIs s st t → st .partial ≡ Holding a
@@ -79,36 +51,15 @@ pub closed-is : (s : model.State) (a : Aggregate) (st : State) (t : Tables) (st�
 unfolding closeAt
 closed-is s a st t st′ t′ i e g o c =
     let h : ℕ = horizon (count s) (s .queries) in
-    let p : Partial = spanning (a .start) (count s) in
-    let b : Holds s st t = i .board in
     let same : HoldingIs a s = holding-is s st t a i e in
-    let l : length (partialsFrom h (s .closed)) < capacity = room h (s .closed) (a .start) (count s) o (same .holds) (horizon-far (count s) (s .queries) g) in
-    let greatest : entryWith (a .start) (a .maximum) ≡ entry (extreme leZ) (s .readings) p = ap (entryWith (a .start)) (same .maximum) in
-    let least : entryWith (a .start) (a .minimum) ≡ entry (extreme geZ) (s .readings) p = ap (entryWith (a .start)) (same .minimum) in
+    let is : a ≡ closedOf (s .readings) (spanning (a .start) (count s)) = aggregate-is a _ _ _ (same .sum) (same .maximum) (same .minimum) in
+    let near : a .start < h + capacity = omega (arith, same .holds, horizon-far (count s) (s .queries) g) in
     record {
       count = c .count ∙ i .count;
-      closed = c .closed ∙ ap (λ (k : ℕ). k + 1) (i .closed) ∙ sym (length-append (s .closed) (p ∷ []));
-      maxComparisons =
-          deque-total leZ leZ-order s (b .held) p (entryWith (a .start) (a .maximum)) (t .maxStarts) (t .maxValues) (st .maxima) (t′ .maxStarts) (t′ .maxValues) (st′ .maxima) (b .retained) greatest (b .maxima) (c .maxima)
-          ∙ ap (λ (k : ℕ). k + closingComparisons leZ s p) (i .maxComparisons);
-      minComparisons =
-          deque-total geZ geZ-order s (b .held) p (entryWith (a .start) (a .minimum)) (t .minStarts) (t .minValues) (st .minima) (t′ .minStarts) (t′ .minValues) (st′ .minima) (b .retained) least (b .minima) (c .minima)
-          ∙ ap (λ (k : ℕ). k + closingComparisons geZ s p) (i .minComparisons);
       partial = subst (λ (x : Open). OpenIs x (closeAt s (a .start))) (sym (c .partial)) refl;
       board =
-          record {
-            held = partialsFrom h (s .closed) ++ (p ∷ []);
-            retained = retained-closed h (s .closed) (a .start) (count s) (same .holds) o;
-            fits = c .fits;
-            sums =
-                c .sums
-                ∙ ap (λ (xs : List (Entry ℤ)). newest capacity (evicted h xs ++ (entryWith (a .start) (a .sum) ∷ []))) (b .sums)
-                ∙ ap (λ (v : ℤ). newest capacity (evicted h (entries sum (s .readings) (b .held)) ++ (entryWith (a .start) v ∷ []))) (same .sum)
-                ∙ closed-entries sum (s .readings) h (s .closed) (b .held) (count s) (b .retained) p l;
-            bounds = c .bounds (b .bounds);
-            maxima = deque-stands leZ leZ-order s (b .held) p (entryWith (a .start) (a .maximum)) (t .maxStarts) (t .maxValues) (st .maxima) (t′ .maxStarts) (t′ .maxValues) (st′ .maxima) (b .retained) greatest (b .maxima) (c .maxima) l;
-            minima = deque-stands geZ geZ-order s (b .held) p (entryWith (a .start) (a .minimum)) (t .minStarts) (t .minValues) (st .minima) (t′ .minStarts) (t′ .minValues) (st′ .minima) (b .retained) least (b .minima) (c .minima) l;
-          };
+          subst (λ (l : Ledger). Holds h l (st′ .board) t′) (ap (λ (x : Aggregate). closeWith h x (ledgerOf s)) is ∙ ledger-closed s (a .start))
+          (c .board .holds (ledgerOf s) (i .board) (closed-before (s .readings) 0 (s .closed) (a .start) o) near);
     }
 
 module _ (s : model.State) (st : State) (t : Tables) (st′ : State) (t′ : Tables) (i : StateIs s st t) where
@@ -183,41 +134,19 @@ module _ (s : model.State) (v : ℤ) where
         minimum = ap (λ (x : ℤ). greater geZ x v) (h .minimum) ∙ aggregate-more (greater geZ) (greater-assoc geZ geZ-order) (a .start) (h .holds);
       }
 
-  -- a deque is not touched: what it holds stands with one reading more
-  stands-taken : (below : ℤ → ℤ → Bool) (h : ℕ) (held : List Partial) (starts : List ℕ) (values : List ℤ) (d : Deque) → Retained h (s .closed) held (count s)
-      → StandsOn below (s .readings) held starts values d → StandsOn below (s .readings ++ (v ∷ [])) held starts values d
-  stands-taken below h held starts values d r k =
-      record {
-        fits = k .fits;
-        entries = k .entries ∙ ap (standing below) (sym (retained-stable (extreme below) (s .readings) (v ∷ []) h (s .closed) held (count s) (le-refl (count s)) r));
-      }
-
   -- the state with the reading is the model's
-  pub taken-is : (st : State) (t : Tables) → StateIs s st t → StateIs (readingTaken s v) (withReading v st) t
+  pub taken-is : Ordered 0 (s .closed) (count s) → (st : State) (t : Tables) → StateIs s st t → StateIs (readingTaken s v) (withReading v st) t
   unfolding readingTaken
-  taken-is st t i =
+  taken-is o st t i =
       let h : ℕ = horizon (count s) (s .queries) in
       let h′ : ℕ = horizon (length (s .readings ++ (v ∷ []))) (s .queries) in
-      let b : Holds s st t = i .board in
       let further : h ≤ h′ = rw taken-count (horizon-later (count s) (s .queries)) in
       record {
         count = ap (λ (k : ℕ). k + 1) (i .count) ∙ sym taken-count;
-        closed = i .closed;
-        maxComparisons = i .maxComparisons;
-        minComparisons = i .minComparisons;
         partial = subst (λ (k : ℕ). OpenIs (openWith k v (st .partial)) (readingTaken s v)) (sym (i .count)) (open-taken (st .partial) (i .partial));
         board =
-            record {
-              held = b .held;
-              retained =
-                  retained-rises h h′ (s .closed) (b .held) (length (s .readings ++ (v ∷ []))) further
-                  (retained-later h (s .closed) (b .held) (count s) (length (s .readings ++ (v ∷ []))) (omega (arith, taken-count)) (b .retained));
-              fits = b .fits;
-              sums = b .sums ∙ sym (retained-stable sum (s .readings) (v ∷ []) h (s .closed) (b .held) (count s) (le-refl (count s)) (b .retained));
-              bounds = b .bounds;
-              maxima = stands-taken leZ h (b .held) (t .maxStarts) (t .maxValues) (st .maxima) (b .retained) (b .maxima);
-              minima = stands-taken geZ h (b .held) (t .minStarts) (t .minValues) (st .minima) (b .retained) (b .minima);
-            };
+            subst (λ (cs : List Aggregate). Holds h′ (ledger cs (s .maxComparisons) (s .minComparisons)) (st .board) t) (sym (closed-stable (s .readings) (v ∷ []) 0 (s .closed) o))
+            (holds-rises h h′ (ledgerOf s) (st .board) t further (i .board));
       }
 
 -- the closed partials are over by the start of the open one, and that is at most n
@@ -248,7 +177,7 @@ read-is s v st t st′ t′ i r c =
     (go (any (edge (count s + 1)) (s .queries)) c)
   where
     later : StateIs (readingTaken s v) (withReading v st) t
-    later = taken-is s v st t r
+    later = taken-is s v (shape-ordered (s .openStart) (count s) (s .queries) (s .closed) (i .shape)) st t r
 
     go : (b : Bool) → ClosedWhere b (horizon (count s + 1) (s .queries)) (withReading v st) t st′ t′ → StateIs (closeWhere b (s .openStart) (readingTaken s v)) st′ t′
     go true d =

@@ -13,22 +13,22 @@ use Rattle.window.specs.Refusals.{refusalNumber, firstRefusal, readingChecks}
 use Rattle.window.specs.Calls.{Call, start, reading, refused}
 use Rattle.window.specs.Model as model
 use Rattle.window.specs.Model.{count, Stepped, judged, step}
-use Rattle.window.proofs.Refusals.{refused-same}
+use Rattle.window.proofs.Refusals.{refused-same, refused-passed}
 use Rattle.window.proofs.Steps.{numberOf}
 use Rattle.registry.specs.Records.{used}
 use Rattle.engine.specs.declared.calls.Answered.{Answered}
 use Rattle.engine.specs.declared.calls.ReadingReply.{ReadingReply}
 use Rattle.engine.specs.declared.calls.Reply.{Reply}
 use Rattle.engine.specs.declared.state.State.{State}
-use Rattle.engine.specs.Tables.{tablesLong}
+use Rattle.board.specs.Tables.{tablesLong}
 use Rattle.engine.specs.States.{Judged, isShort, isDamaged, isJudged}
 use Rattle.engine.specs.Answers.{places}
 use Rattle.engine.specs.Machine.{Machine, machine, Represents}
 use Rattle.engine.specs.Outcomes.{verdictOutcome, readingOutcome}
-use Rattle.engine.specs.Contracts.{InRows, Ensures, ReadingEnsures, StartEnsures}
+use Rattle.engine.specs.Contracts.{InRows, verdictOf, Ensures, ReadingEnsures, StartEnsures}
 use Rattle.engine.proofs.Soundness.{represents-intact}
-use Rattle.engine.proofs.Stepping.{verdictOf, acceptedStep, step-judged, own-row, same-verdict}
-use Rattle.engine.proofs.Keeping.{tables-same}
+use Rattle.engine.proofs.Stepping.{acceptedStep, step-judged, own-row, same-verdict}
+use Rattle.board.proofs.Lending.{tables-same}
 
 -- a call other than start that any check refuses
 pub refused-call : (c : Call) (m : Machine) (long : Bool) (w : Verdict) (r : Refusal) → InRows c 1 → InRows c 2
@@ -44,6 +44,7 @@ refused-call c m long w r one two same (isShort f) i =
       represents = λ s rep. absurd (true≢false (sym (rep .long) ∙ e));
       unchanged = λ k j. refl;
       own = λ k j. subst (InRows c) (n ∙ ap numberOf j) one;
+      accepts = λ p k j. true≢false (sym (p .long) ∙ e);
       kept = tables-same (m .tables);
     }
 refused-call c m long w r one two same (isDamaged l f) i =
@@ -56,6 +57,7 @@ refused-call c m long w r one two same (isDamaged l f) i =
       represents = λ s rep. absurd (f (represents-intact s m rep));
       unchanged = λ k j. refl;
       own = λ k j. subst (InRows c) (n ∙ ap numberOf j) two;
+      accepts = λ p k j. f (p .intact);
       kept = tables-same (m .tables);
     }
 refused-call c m long w r one two same (isJudged l f) i =
@@ -67,6 +69,7 @@ refused-call c m long w r one two same (isJudged l f) i =
       represents = λ s rep. subst (λ (x : Stepped). Represents (x .state) m) (sym (step-refused s rep)) rep;
       unchanged = λ k j. refl;
       own = λ k j. subst (InRows c) (ap numberOf j) (own-row c (m .state .count) (used (m .queries)) r i);
+      accepts = λ p k j. refused-passed r (sym i ∙ p .own);
       kept = tables-same (m .tables);
     }
   where

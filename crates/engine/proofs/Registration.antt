@@ -20,14 +20,14 @@ use Rattle.window.specs.Invariant.{Invariant}
 use Rattle.window.proofs.Queries.{horizon-more, horizon-fewer}
 use Rattle.window.proofs.Bounds.{bounded}
 use Rattle.window.proofs.Steps.{close-keeps}
-use Rattle.deque.proofs.Bridge.{retained-none, retained-rises}
+use Rattle.board.proofs.Holding.{holds-rises}
 use Rattle.engine.specs.declared.partial.Open.{Open}
 use Rattle.engine.specs.declared.partial.Open.the-variants.{Nothing, Empty, Holding}
 use Rattle.engine.specs.declared.state.State.{State}
-use Rattle.engine.specs.Tables.{Tables}
+use Rattle.board.specs.Tables.{Tables}
 use Rattle.engine.specs.States.{FreshState, withPartial, openWhileAny}
 use Rattle.engine.specs.Closings.{OpenClosed}
-use Rattle.engine.specs.Machine.{OpenIs, Holds, StateIs}
+use Rattle.engine.specs.Machine.{OpenIs, ledgerOf, StateIs}
 use Rattle.engine.proofs.Refinement.{open-start, open-closed-is}
 
 -- ---- other queries, and another partial open
@@ -41,23 +41,10 @@ requeried-is : (s : model.State) (qs : List Query) (x : Option ℕ) (o : Open) (
     → horizon (count s) (s .queries) ≤ horizon (count s) qs → OpenIs o (requeried s qs x) → StateIs s st t
     → StateIs (requeried s qs x) (withPartial o st) t
 requeried-is s qs x o st t l k i =
-    let b : Holds s st t = i .board in
     record {
       count = i .count;
-      closed = i .closed;
-      maxComparisons = i .maxComparisons;
-      minComparisons = i .minComparisons;
       partial = k;
-      board =
-          record {
-            held = b .held;
-            retained = retained-rises (horizon (count s) (s .queries)) (horizon (count s) qs) (s .closed) (b .held) (count s) l (b .retained);
-            fits = b .fits;
-            sums = b .sums;
-            bounds = b .bounds;
-            maxima = b .maxima;
-            minima = b .minima;
-          };
+      board = holds-rises (horizon (count s) (s .queries)) (horizon (count s) qs) (ledgerOf s) (st .board) t l (i .board);
     }
 
 -- what is open does not depend on the queries
@@ -112,18 +99,6 @@ pub fresh-is : (st : State) (t : Tables) → FreshState st → StateIs initial s
 fresh-is st t f =
     record {
       count = f .count;
-      closed = f .closed;
-      maxComparisons = f .maxTotal;
-      minComparisons = f .minTotal;
       partial = subst (λ (o : Open). OpenIs o initial) (sym (f .partial)) refl;
-      board =
-          record {
-            held = [];
-            retained = retained-none 0;
-            fits = f .sums;
-            sums = f .noSums (t .starts) (t .sums);
-            bounds = f .bounds (t .sums);
-            maxima = record { fits = f .maxRing; entries = f .noMaxima (t .maxStarts) (t .maxValues) };
-            minima = record { fits = f .minRing; entries = f .noMinima (t .minStarts) (t .minValues) };
-          };
+      board = f .board .holds 0 t;
     }

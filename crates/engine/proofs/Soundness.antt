@@ -8,7 +8,7 @@ use Prim.Native.Nat.{ℕ, _+_, _-_, _*_, _≤_, _<_}
 use native.Mathlib.Nat.{le-refl}
 use native.Mathlib.Omega.{arith}
 use lib.IntN.{ℤ, _+ℤ_}
-use lib.ListN.{length, take}
+use lib.ListN.{length, take, length-map}
 use lib.Seq.{length-slice}
 use Rattle.ints.specs.Sizes.{Small}
 use Rattle.ints.proofs.Sizes.{small-more, small-add, small-reading}
@@ -20,22 +20,23 @@ use Rattle.window.specs.Refusals.{damaged}
 use Rattle.window.specs.Calls.{IsReading}
 use Rattle.window.specs.Model as model
 use Rattle.window.specs.Model.{count}
-use Rattle.window.specs.Invariant.{Bounded, Invariant}
+use Rattle.window.specs.Invariant.{Invariant}
 use Rattle.window.proofs.Lists.{each-take, each-drop}
 use Rattle.window.proofs.Tiling.{ordered-count}
 use Rattle.window.proofs.Bounds.{bounded, sum-bound}
 use Rattle.deque.specs.Sums.{sumLimit}
 use Rattle.registry.specs.declared.queries.Queries.{Queries}
 use Rattle.registry.specs.Records.{used}
-use Rattle.engine.specs.declared.partial.Aggregate.{Aggregate}
+use Rattle.board.specs.declared.aggregate.Aggregate.{Aggregate}
 use Rattle.engine.specs.declared.partial.Open.{Open}
 use Rattle.engine.specs.declared.partial.Open.the-variants.{Nothing, Empty, Holding}
 use Rattle.engine.specs.declared.state.State.{State}
 use Rattle.engine.specs.Open.{readingSize, sizeLimit, openWith, FitsAggregate, FitsOpen}
-use Rattle.engine.specs.Tables.{Tables}
+use Rattle.board.specs.Tables.{Tables}
+use Rattle.board.proofs.Holding.{holds-within}
 use Rattle.engine.specs.States.{Sound, Intact, withReading}
 use Rattle.engine.specs.Closings.{Ready}
-use Rattle.engine.specs.Machine.{Machine, OpenIs, Holds, ListIs, StateIs, Represents}
+use Rattle.engine.specs.Machine.{Machine, OpenIs, horizonOf, closedOf, ledgerOf, ListIs, StateIs, Represents}
 use Rattle.engine.proofs.Aggregates.{holding-small}
 use Rattle.engine.proofs.Refinement.{open-start}
 
@@ -58,36 +59,29 @@ with-small n closed v r (Holding a) f =
 
 module _ (st : State) (ok : Sound st) where
   -- an open partial that holds readings fits
-  holding-fits : (a : Aggregate) → st .partial ≡ Holding a → FitsAggregate (st .count) (st .closed) a
-  holding-fits a e = subst (FitsOpen (st .count) (st .closed)) e (ok .partial)
+  holding-fits : (a : Aggregate) → st .partial ≡ Holding a → FitsAggregate (st .count) (st .board .closed) a
+  holding-fits a e = subst (FitsOpen (st .count) (st .board .closed)) e (ok .partial)
 
   -- it is ready for a closing with this open, at any count, where a partial that holds readings is small and one more
   -- can be counted
-  ready-with : (n : ℕ) (o : Open) → st .count ≤ countLimit → ((a : Aggregate) → o ≡ Holding a → Small sumLimit (a .sum) × (st .closed < countLimit))
-      → Ready (record { count = n; closed = st .closed; partial = o; sums = st .sums; maxima = st .maxima; minima = st .minima })
+  ready-with : (n : ℕ) (o : Open) → st .count ≤ countLimit → ((a : Aggregate) → o ≡ Holding a → Small sumLimit (a .sum) × (st .board .closed < countLimit))
+      → Ready (record { count = n; partial = o; board = st .board })
   ready-with n o l p =
-      record {
-        sums = ok .sums;
-        maxRing = ok .maxRing;
-        maxTotal = omega (arith, ok .maxTotal, ok .early);
-        minRing = ok .minRing;
-        minTotal = omega (arith, ok .minTotal, ok .early);
-        partial = p;
-      }
+      record { board = ok .board; partial = p }
 
   -- so it is as it stands
   pub sound-ready : st .count ≤ countLimit → Ready st
   sound-ready l =
       ready-with (st .count) (st .partial) l
       (λ a e.
-      let f : FitsAggregate (st .count) (st .closed) a = holding-fits a e in
-      (small-more sizeLimit sumLimit (a .sum) (omega arith) (holding-small (st .count) (st .closed) (st .partial) a e (ok .partial)), omega (arith, f .after, f .holds)))
+      let f : FitsAggregate (st .count) (st .board .closed) a = holding-fits a e in
+      (small-more sizeLimit sumLimit (a .sum) (omega arith) (holding-small (st .count) (st .board .closed) (st .partial) a e (ok .partial)), omega (arith, f .after, f .holds)))
 
   -- and with one reading more
   pub sound-taken : (v : ℤ) → st .count < countLimit → IsReading v → Ready (withReading v st)
   sound-taken v l r =
       ready-with (st .count + 1) (openWith (st .count) v (st .partial)) (omega (arith, l))
-      (λ a e. (subst (SmallOpen sumLimit) e (with-small (st .count) (st .closed) v r (st .partial) (ok .partial)), omega (arith, ok .early, l)))
+      (λ a e. (subst (SmallOpen sumLimit) e (with-small (st .count) (st .board .closed) v r (st .partial) (ok .partial)), omega (arith, ok .early, l)))
 
 -- ---- what represents the model passes check 2
 
@@ -113,18 +107,14 @@ module _ (s : model.State) (v : Invariant s) (readings : Each IsReading (s .read
   -- a state that is the model's is sound
   pub state-sound : (st : State) (t : Tables) → StateIs s st t → Sound st
   state-sound st t i =
-      let b : Holds s st t = i .board in
-      let k : Bounded s = bounded s v in
+      let b = i .board in
+      let p : st .board .closed ≡ length (s .closed) = b .closed ∙ length-map (s .closed) (closedOf (s .readings)) in
       record {
-        early = omega (arith, i .count, i .closed, k .closedCount);
-        sums = b .fits;
-        maxRing = b .maxima .fits;
-        maxTotal = omega (arith, i .maxComparisons, i .closed, k .maxima);
-        minRing = b .minima .fits;
-        minTotal = omega (arith, i .minComparisons, i .closed, k .minima);
+        early = omega (arith, i .count, p, (bounded s v) .closedCount);
+        board = holds-within (horizonOf s) (ledgerOf s) (st .board) t b;
         partial =
-            subst (λ (n : ℕ). FitsOpen n (st .closed) (st .partial)) (sym (i .count))
-            (subst (λ (c : ℕ). FitsOpen (count s) c (st .partial)) (sym (i .closed)) (open-fits (st .partial) (i .partial)));
+            subst (λ (n : ℕ). FitsOpen n (st .board .closed) (st .partial)) (sym (i .count))
+            (subst (λ (c : ℕ). FitsOpen (count s) c (st .partial)) (sym p) (open-fits (st .partial) (i .partial)));
       }
 
   -- queries that are the model's are not damaged

@@ -6,7 +6,7 @@ use mathlib.Core.Bool.{false}
 use mathlib.Core.List.{List}
 use lib.IntN.{ℤ}
 use Rattle.window.specs.Calls.{Call, Outcome, refused}
-use Rattle.engine.specs.Tables.{tablesLong}
+use Rattle.board.specs.Tables.{tablesLong}
 use Rattle.engine.specs.Machine.{Machine}
 use Rattle.engine.specs.Contracts.{Promise, StartEnsures, Ensures, ReadingEnsures}
 

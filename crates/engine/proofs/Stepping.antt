@@ -5,28 +5,19 @@ use mathlib.Core.List.{List}
 use Prim.Native.Nat.{ℕ}
 use Rattle.window.specs.declared.query.Query.{Query}
 use Rattle.window.specs.declared.refusal.Refusal.{Refusal}
-use Rattle.window.specs.declared.refusal.Verdict.{Verdict}
-use Rattle.window.specs.declared.refusal.Verdict.the-variants.{Passed, Refused}
-use Rattle.window.specs.Refusals.{refusalNumber, firstRefusal, fieldChecks, listChecks, registerChecks, withdrawChecks, readingChecks}
+use Rattle.window.specs.declared.refusal.Verdict.the-variants.{Refused}
+use Rattle.window.specs.Refusals.{refusalNumber, nameChecks, lengthChecks, fieldChecks, listChecks, registerChecks, withdrawChecks, countChecks, placesChecks, readingChecks, readingChecksAt}
 use Rattle.window.specs.Calls.{Call, start, register, withdraw, reading, totals}
 use Rattle.window.specs.Model as model
-use Rattle.window.specs.Model.{count, initial, afterRegister, afterWithdraw, afterReading, Stepped, done, answered, totalsOf, judged, newQuery, step}
+use Rattle.window.specs.Model.{count, initial, afterRegister, afterWithdraw, afterReading, Stepped, done, answered, totalsOf, judged, newQuery, step, stepAt}
 use Rattle.window.proofs.Refusals.{refused-passed, refusal-each}
 use Rattle.registry.specs.Records.{used}
 use Rattle.engine.specs.declared.state.State.{State}
 use Rattle.engine.specs.Answers.{places}
 use Rattle.engine.specs.Machine.{Machine, Represents}
-use Rattle.engine.specs.Contracts.{InRows}
+use Rattle.engine.specs.Contracts.{InRows, verdictOf}
 
 -- ---- the model's step, as a verdict and what follows on acceptance
-
--- what a call's own checks come to, with n readings taken and these queries registered
-abbrev pub verdictOf : Call → ℕ → List Query → Verdict
-verdictOf start n qs = Passed
-verdictOf (register number kind range slide) n qs = firstRefusal (registerChecks qs number kind range slide)
-verdictOf (withdraw number) n qs = firstRefusal (withdrawChecks qs number)
-verdictOf (reading v places) n qs = firstRefusal (readingChecks n qs places)
-verdictOf totals n qs = Passed
 
 -- the accepted call
 abbrev pub acceptedStep : model.State → Call → Stepped
@@ -38,7 +29,7 @@ acceptedStep s totals = totalsOf s
 
 -- the step is the accepted one, or none, by the verdict
 pub step-judged : (s : model.State) (c : Call) → step s c ≡ judged (verdictOf c (count s) (s .queries)) s (acceptedStep s c)
-unfolding step
+unfolding stepAt
 step-judged s start = refl
 step-judged s (register number kind range slide) = refl
 step-judged s (withdraw number) = refl
@@ -49,7 +40,7 @@ step-judged s totals = refl
 
 -- the number of a refusal by a call's own checks is in its rows
 pub own-row : (c : Call) (n : ℕ) (qs : List Query) (r : Refusal) → verdictOf c n qs ≡ Refused r → InRows c (refusalNumber r)
-unfolding registerChecks fieldChecks listChecks withdrawChecks readingChecks
+unfolding registerChecks fieldChecks nameChecks lengthChecks listChecks withdrawChecks readingChecksAt countChecks placesChecks
 own-row start n qs r e = refused-passed r (sym e)
 own-row (register number kind range slide) n qs r e =
     refusal-each (λ (x : Refusal). InRows (register number kind range slide) (refusalNumber x)) (registerChecks qs number kind range slide)

@@ -13,12 +13,11 @@ use Rattle.window.specs.Queries.{countLimit, edge, horizon}
 use Rattle.window.specs.Refusals.{answerPlaces, dueAt}
 use Rattle.window.specs.Calls.{IsReading}
 use Rattle.window.proofs.Lists.{each-map}
-use Rattle.deque.specs.Rings.{Fits}
-use Rattle.deque.specs.Sums.{FitsSums}
+use Rattle.board.specs.Boards.{Usable}
 use Rattle.engine.specs.declared.partial.Open.{Open}
 use Rattle.engine.specs.declared.partial.Open.the-variants.{Nothing, Empty, Holding}
 use Rattle.engine.specs.declared.state.State.{State}
-use Rattle.engine.specs.Tables.{Tables}
+use Rattle.board.specs.Tables.{Tables}
 use Rattle.engine.specs.States.{Sound, withReading}
 use Rattle.engine.specs.Closings.{Ready, OpenClosed, ClosedWhere}
 use Rattle.engine.proofs.Soundness.{sound-taken}
@@ -49,20 +48,18 @@ module _ (v : ℤ) (st taken : State) (is : taken ≡ withReading v st) where
 -- the rings fit, and n is as it was
 pub record Left (st st′ : State) : Type 0 where
   pub count : st′ .count ≡ st .count
-  pub sums : FitsSums (st′ .sums)
-  pub maxRing : Fits (st′ .maxima .ring)
-  pub minRing : Fits (st′ .minima .ring)
+  pub usable : Usable (st′ .board)
 
 -- so they are where nothing changes
 same-left : (st st′ : State) → Ready st → st′ ≡ st → Left st st′
-same-left st st′ r e = subst (Left st) (sym e) (record { count = refl; sums = r .sums; maxRing = r .maxRing; minRing = r .minRing })
+same-left st st′ r e = subst (Left st) (sym e) (record { count = refl; usable = r .board .usable })
 
 -- and after the closing of what is open
 pub open-left : (o : Open) (h : ℕ) (st : State) (t : Tables) (st′ : State) (t′ : Tables) → Ready st → OpenClosed o h st t st′ t′ → Left st st′
 open-left Nothing h st t st′ t′ r c = same-left st st′ r (c .0)
 open-left Empty h st t st′ t′ r c = same-left st st′ r (c .0)
 open-left (Holding a) h st t st′ t′ r c =
-    record { count = c .count; sums = c .fits; maxRing = c .maxima .fits; minRing = c .minima .fits }
+    record { count = c .count; usable = c .board .usable }
 
 -- the answers of those that are due fit the answer table
 pub due-fit : (n m places : ℕ) (qs : List Query) → m ≡ n + 1 → answerPlaces * length (dueAt (n + 1) qs) ≤ places → answerPlaces * length (dueAt m qs) ≤ places

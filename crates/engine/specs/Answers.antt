@@ -1,23 +1,22 @@
 -- Answers: their places in the answer table, and their values from what the rings hold.
 -- Assumes nothing.
-use Prim.Native.Nat.{ℕ, zero, suc, _+_, _*_}
+use Prim.Native.Nat.{ℕ, zero, suc, _+_, _*_, _≤_}
 use mathlib.Core.Bool.{cond}
-use mathlib.Core.List.{List, [], _∷_, _++_, map}
+use mathlib.Core.List.{List, [], _∷_, _++_}
 use lib.Dec.{eqb}
 use lib.IntN.{ℤ, pos, natAbs}
 use lib.ListN.{length, getD, take, drop}
 use Rattle.window.specs.declared.query.Query.{Query}
-use Rattle.window.specs.Orders.{sum}
-use Rattle.window.specs.Queries.{sumKind, countKind, maximumKind, windowStart, windowCount}
-use Rattle.window.specs.Partials.{valueOf}
-use Rattle.window.specs.Standing.{evicted, frontOf}
+use Rattle.window.specs.Lists.{Each}
+use Rattle.window.specs.Queries.{countKind, windowStart, windowCount}
 use Rattle.window.specs.Refusals.{answerPlaces}
 use Rattle.window.specs.Calls.{Answer}
-use Rattle.window.specs.Invariant.{Sorted}
-use Rattle.deque.specs.Extremes.{entriesOf}
-use Rattle.deque.specs.Sums.{partialsOf, InBounds}
-use Rattle.engine.specs.declared.state.State.{State}
-use Rattle.engine.specs.Tables.{Tables}
+use Rattle.board.specs.declared.aggregate.Aggregate.{Aggregate}
+use Rattle.board.specs.declared.board.Board.{Board}
+use Rattle.board.specs.Aggregates.{closedFrom}
+use Rattle.board.specs.Ledgers.{Ledger, valueOver}
+use Rattle.board.specs.Tables.{Tables}
+use Rattle.board.specs.Boards.{Holds}
 
 -- ---- the places of answers
 
@@ -51,26 +50,20 @@ answersIn (suc k) t =
     record { number = natAbs (getD t 0 (pos 0)); kind = natAbs (getD t 1 (pos 0)); count = natAbs (getD t 2 (pos 0)); value = getD t 3 (pos 0) }
     ∷ answersIn k (drop answerPlaces t)
 
--- ---- the values of windows, from the rings
+-- ---- the values of windows, from what is closed
 
--- the starts in each ring never fall, and the table of sums is within its bounds; so it is where state and tables came
--- from a start
-pub record InOrder (st : State) (t : Tables) : Type 0 where
-  pub sums : Sorted (partialsOf (t .starts) (t .sums) (st .sums))
-  pub bounds : InBounds (t .sums) (st .sums)
-  pub maxima : Sorted (entriesOf (t .maxStarts) (t .maxValues) (st .maxima .ring))
-  pub minima : Sorted (entriesOf (t .minStarts) (t .minValues) (st .minima .ring))
+-- where a board stands for a ledger, at a horizon that no window of these queries at n starts before
+pub record Backing (n : ℕ) (qs : List Query) (b : Board) (t : Tables) : Type 0 where
+  pub horizon : ℕ
+  pub ledger : Ledger
+  pub holds : Holds horizon ledger b t
+  pub early : Each (λ (q : Query). horizon ≤ windowStart n q) qs
 
--- the value of the window of q: the sum of the partials from its start on, the count of its readings, or the first that
--- stands for maxima or minima from there on
-abbrev pub valueFrom : State → Tables → Query → ℤ
-valueFrom st t q =
-    cond (eqb (q .kind) sumKind) (sum (map valueOf (evicted (windowStart (st .count) q) (partialsOf (t .starts) (t .sums) (st .sums)))))
-    (cond (eqb (q .kind) countKind) (pos (windowCount (st .count) q))
-    (cond (eqb (q .kind) maximumKind)
-    (frontOf (pos 0) (evicted (windowStart (st .count) q) (entriesOf (t .maxStarts) (t .maxValues) (st .maxima .ring))))
-    (frontOf (pos 0) (evicted (windowStart (st .count) q) (entriesOf (t .minStarts) (t .minValues) (st .minima .ring))))))
+-- the value of the window of q at n: the count of its readings, or the value of its kind over what is closed from its
+-- start on
+unfoldable pub valueIn : List Aggregate → ℕ → Query → ℤ
+valueIn cs n q = cond (eqb (q .kind) countKind) (pos (windowCount n q)) (valueOver (q .kind) (closedFrom (windowStart n q) cs))
 
--- the answer of q from the rings
-unfoldable pub answerFrom : State → Tables → Query → Answer
-answerFrom st t q = answerWith q (windowCount (st .count) q) (valueFrom st t q)
+-- the answer of q from what is closed
+unfoldable pub answerIn : List Aggregate → ℕ → Query → Answer
+answerIn cs n q = answerWith q (windowCount n q) (valueIn cs n q)

@@ -4,18 +4,22 @@ use Prim.Native.Nat.{ℕ, _+_}
 use mathlib.Core.Path.{_≡_}
 use mathlib.Core.Bool.{Bool, true, false}
 use mathlib.Core.List.{List, [], _∷_}
-use lib.IntN.{ℤ, pos}
+use lib.IntN.{ℤ}
 use lib.ListN.{length}
 use Rattle.window.specs.Lists.{any}
-use Rattle.window.specs.Queries.{edge}
-use Rattle.window.specs.Refusals.{damaged}
+use Rattle.window.specs.Queries.{countLimit, edge}
+use Rattle.window.specs.declared.query.Query.{Query}
+use Rattle.window.specs.declared.refusal.Verdict.{Verdict}
+use Rattle.window.specs.declared.refusal.Verdict.the-variants.{Passed}
+use Rattle.window.specs.Refusals.{damaged, firstRefusal, registerChecks, withdrawChecks, readingChecksAt}
 use Rattle.window.specs.Calls.{Call, start, register, withdraw, reading, totals, Outcome, accepted, refused}
 use Rattle.window.specs.Model as model
-use Rattle.window.specs.Model.{initial, step}
+use Rattle.window.specs.Model.{initial, stepAt}
 use Rattle.registry.specs.Records.{used, occurs}
-use Rattle.engine.specs.Tables.{Tables, tables, tablesLong, zeroed, TablesKept}
+use Rattle.board.specs.Tables.{tablesLong, zeroedTables, TablesKept}
+use Rattle.engine.specs.States.{Intact}
 use Rattle.engine.specs.Answers.{answeredPlaces}
-use Rattle.engine.specs.Machine.{Machine, Represents}
+use Rattle.engine.specs.Machine.{Machine, RepresentsAt}
 
 -- what a call says of the machine before it, its outcome and the machine after it
 abbrev pub Promise : Type 1
@@ -40,22 +44,52 @@ InRows c k = occurs k (rows c) ≡ true
 abbrev pub listDamaged : Machine → Bool
 listDamaged m = damaged (m .state .count) (m .queries .count) (used (m .queries))
 
+-- ---- what decides
+
+-- what a call's own checks come to, with n readings taken and these queries registered
+abbrev pub verdictAt : ℕ → Call → ℕ → List Query → Verdict
+verdictAt limit start n qs = Passed
+verdictAt limit (register number kind range slide) n qs = firstRefusal (registerChecks qs number kind range slide)
+verdictAt limit (withdraw number) n qs = firstRefusal (withdrawChecks qs number)
+verdictAt limit (reading v places) n qs = firstRefusal (readingChecksAt limit n qs places)
+verdictAt limit totals n qs = Passed
+
+-- with the limit of this form
+abbrev pub verdictOf : Call → ℕ → List Query → Verdict
+verdictOf c n qs = verdictAt countLimit c n qs
+
+-- every check passes
+pub record PassesAt (limit : ℕ) (c : Call) (m : Machine) : Type 0 where
+  pub long : tablesLong (m .tables) ≡ true
+  pub intact : Intact (m .state) (m .queries)
+  pub own : verdictAt limit c (m .state .count) (used (m .queries)) ≡ Passed
+
+-- with the limit of this form
+abbrev pub Passes : Call → Machine → Type 0
+Passes c m = PassesAt countLimit c m
+
 -- ---- register, withdraw, reading and totals
 
 -- the call c on m came to the outcome o and left m′
-pub record Ensures (c : Call) (m : Machine) (o : Outcome) (m′ : Machine) : Type 0 where
+pub record EnsuresAt (limit : ℕ) (c : Call) (m : Machine) (o : Outcome) (m′ : Machine) : Type 0 where
   -- checks 1 and 2
   pub short : tablesLong (m .tables) ≡ false → o ≡ refused 1
   pub broken : tablesLong (m .tables) ≡ true → listDamaged m ≡ true → o ≡ refused 2
   -- whatever state of the model is represented: the outcome is the model's, and what is left represents the model's
   -- next state
-  pub agrees : (s : model.State) → Represents s m → o ≡ (step s c) .outcome
-  pub represents : (s : model.State) → Represents s m → Represents ((step s c) .state) m′
+  pub agrees : (s : model.State) → RepresentsAt limit s m → o ≡ (stepAt limit s c) .outcome
+  pub represents : (s : model.State) → RepresentsAt limit s m → RepresentsAt limit ((stepAt limit s c) .state) m′
   -- a refused call changes nothing, and its number is in the call's own rows
   pub unchanged : (k : ℕ) → o ≡ refused k → m′ ≡ m
   pub own : (k : ℕ) → o ≡ refused k → InRows c k
+  -- whatever the tables hold: where every check passes, it is not refused
+  pub accepts : PassesAt limit c m → (k : ℕ) → o ≡ refused k → ⊥
   -- no place beyond the first 4,096 of a table is written
   pub kept : TablesKept (m .tables) (m′ .tables)
+
+-- with the limit of this form
+abbrev pub Ensures : Call → Machine → Outcome → Machine → Type 0
+Ensures c m o m′ = EnsuresAt countLimit c m o m′
 
 -- ---- reading
 
@@ -68,32 +102,29 @@ placesAfter (accepted ns answers) places = answeredPlaces answers places
 placesAfter (refused k) places = places
 
 -- the reading v with an answer table that held `before` and holds `after`
-pub record ReadingEnsures (v : ℤ) (before after : List ℤ) (m : Machine) (o : Outcome) (m′ : Machine) : Type 0 where
-  pub ensures : Ensures (reading v (length before)) m o m′
+pub record ReadingEnsuresAt (limit : ℕ) (v : ℤ) (before after : List ℤ) (m : Machine) (o : Outcome) (m′ : Machine) : Type 0 where
+  pub ensures : EnsuresAt limit (reading v (length before)) m o m′
   pub places : after ≡ placesAfter o before
   -- where nothing is cut, no table is touched
   pub uncut : any (edge (m .state .count + 1)) (used (m .queries)) ≡ false → m′ .tables ≡ m .tables
 
+-- with the limit of this form
+abbrev pub ReadingEnsures : ℤ → List ℤ → List ℤ → Machine → Outcome → Machine → Type 0
+ReadingEnsures v before after m o m′ = ReadingEnsuresAt countLimit v before after m o m′
+
 -- ---- start
 
--- the tables with the first 4,096 places of each 0
-abbrev pub zeroedTables : Tables → Tables
-zeroedTables t =
-    tables
-    (zeroed 0 (t .starts))
-    (zeroed (pos 0) (t .sums))
-    (zeroed 0 (t .maxStarts))
-    (zeroed (pos 0) (t .maxValues))
-    (zeroed 0 (t .minStarts))
-    (zeroed (pos 0) (t .minValues))
-
 -- a start on the tables of m, whatever they hold, came to o and left m′
-pub record StartEnsures (m : Machine) (o : Outcome) (m′ : Machine) : Type 0 where
+pub record StartEnsuresAt (limit : ℕ) (m : Machine) (o : Outcome) (m′ : Machine) : Type 0 where
   -- check 1 is the only one
   pub short : tablesLong (m .tables) ≡ false → o ≡ refused 1
   pub accepts : tablesLong (m .tables) ≡ true → o ≡ accepted (0 ∷ []) []
   -- what is left represents the model's first state, and the tables are zeroed
-  pub represents : tablesLong (m .tables) ≡ true → Represents initial m′
+  pub represents : tablesLong (m .tables) ≡ true → RepresentsAt limit initial m′
   pub zeroes : tablesLong (m .tables) ≡ true → m′ .tables ≡ zeroedTables (m .tables)
   pub unchanged : (k : ℕ) → o ≡ refused k → m′ ≡ m
   pub own : (k : ℕ) → o ≡ refused k → InRows start k
+
+-- with the limit of this form
+abbrev pub StartEnsures : Machine → Outcome → Machine → Type 0
+StartEnsures m o m′ = StartEnsuresAt countLimit m o m′

@@ -1,5 +1,4 @@
 pub mod Open
-pub mod Tables
 pub mod States
 pub mod Closings
 pub mod Answers

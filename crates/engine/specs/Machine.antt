@@ -2,33 +2,28 @@
 -- Assumes nothing.
 use Prim.Native.Nat.{ℕ, _<_}
 use mathlib.Core.Path.{_≡_}
-use mathlib.Core.Bool.{Bool, true}
+use mathlib.Core.Bool.{true}
 use mathlib.Core.Option.{none, some}
-use mathlib.Core.List.{List}
+use mathlib.Core.List.{List, map}
 use lib.IntN.{ℤ}
-use lib.Signed.{leZ}
 use lib.ListN.{length}
 use Rattle.window.specs.Lists.{Each}
-use Rattle.window.specs.Orders.{geZ, sum, extreme, maximum, minimum}
-use Rattle.window.specs.Queries.{horizon}
-use Rattle.window.specs.Partials.{Partial, between, entries, entriesFrom, partialsFrom}
-use Rattle.window.specs.Standing.{standing}
+use Rattle.window.specs.Orders.{sum, maximum, minimum}
+use Rattle.window.specs.Queries.{countLimit, horizon}
+use Rattle.window.specs.Partials.{Partial, between, readingsOf}
 use Rattle.window.specs.Calls.{IsReading}
 use Rattle.window.specs.Model as model
 use Rattle.window.specs.Model.{count}
-use Rattle.window.specs.Invariant.{Invariant}
-use Rattle.deque.specs.declared.extremes.Deque.{Deque}
-use Rattle.deque.specs.Rings.{Fits}
-use Rattle.deque.specs.Extremes.{entriesOf}
-use Rattle.deque.specs.Sums.{partialsOf, FitsSums, InBounds}
-use Rattle.deque.specs.Retained.{Retained}
+use Rattle.window.specs.Invariant.{InvariantAt}
 use Rattle.registry.specs.declared.queries.Queries.{Queries}
 use Rattle.registry.specs.Records.{used, Tidy}
-use Rattle.engine.specs.declared.partial.Aggregate.{Aggregate}
+use Rattle.board.specs.declared.aggregate.Aggregate.{Aggregate}
+use Rattle.board.specs.Ledgers.{Ledger, ledger}
+use Rattle.board.specs.Boards.{Holds}
 use Rattle.engine.specs.declared.partial.Open.{Open}
 use Rattle.engine.specs.declared.partial.Open.the-variants.{Nothing, Empty, Holding}
 use Rattle.engine.specs.declared.state.State.{State}
-use Rattle.engine.specs.Tables.{Tables, tablesLong}
+use Rattle.board.specs.Tables.{Tables, tablesLong}
 
 -- state, query list and tables
 pub record Machine : Type 0 where
@@ -58,35 +53,18 @@ OpenIs (Holding a) s = HoldingIs a s
 
 -- ---- the board
 
--- the live closed partials of the model
-abbrev pub livePartials : model.State → List Partial
-livePartials s = partialsFrom (horizon (count s) (s .queries)) (s .closed)
+-- the horizon of the model's state
+abbrev pub horizonOf : model.State → ℕ
+horizonOf s = horizon (count s) (s .queries)
 
--- the board in document 01's words ("Conditions of acceptance"): of what the rings hold, the entries that start at the
--- horizon or later are the live closed partials with starts and sums, and for maxima and for minima those of them that
--- stand, with starts and values. It follows from `Holds` below (`board-live`), and is proved of every list of calls
--- (`BoardLive`)
-pub record HoldsLive (s : model.State) (st : State) (t : Tables) : Type 0 where
-  pub sums : entriesFrom (horizon (count s) (s .queries)) (partialsOf (t .starts) (t .sums) (st .sums)) ≡ entries sum (s .readings) (livePartials s)
-  pub maxima : entriesFrom (horizon (count s) (s .queries)) (entriesOf (t .maxStarts) (t .maxValues) (st .maxima .ring)) ≡ standing leZ (entries maximum (s .readings) (livePartials s))
-  pub minima : entriesFrom (horizon (count s) (s .queries)) (entriesOf (t .minStarts) (t .minValues) (st .minima .ring)) ≡ standing geZ (entries minimum (s .readings) (livePartials s))
+-- a closed partial with its aggregates, as the readings give them
+abbrev pub closedOf : List ℤ → Partial → Aggregate
+closedOf readings p =
+    record { start = p .start; sum = sum (readingsOf readings p); maximum = maximum (readingsOf readings p); minimum = minimum (readingsOf readings p) }
 
--- a deque holds, on its tables, what stands of these partials
-pub record StandsOn (below : ℤ → ℤ → Bool) (readings : List ℤ) (ps : List Partial) (starts : List ℕ) (values : List ℤ) (d : Deque) : Type 0 where
-  pub fits : Fits (d .ring)
-  pub entries : entriesOf starts values (d .ring) ≡ standing below (entries (extreme below) readings ps)
-
--- the tables hold, by the rings of the state, the live closed partials with starts and sums, and for maxima and for
--- minima those that stand of them, with starts and values. Beside the live ones they may hold some that are no longer
--- (`Retained`): what is not live is set aside at closings alone
-pub record Holds (s : model.State) (st : State) (t : Tables) : Type 0 where
-  pub held : List Partial
-  pub retained : Retained (horizon (count s) (s .queries)) (s .closed) held (count s)
-  pub fits : FitsSums (st .sums)
-  pub sums : partialsOf (t .starts) (t .sums) (st .sums) ≡ entries sum (s .readings) held
-  pub bounds : InBounds (t .sums) (st .sums)
-  pub maxima : StandsOn leZ (s .readings) held (t .maxStarts) (t .maxValues) (st .maxima)
-  pub minima : StandsOn geZ (s .readings) held (t .minStarts) (t .minValues) (st .minima)
+-- all that is closed in the model, with M and N
+abbrev pub ledgerOf : model.State → Ledger
+ledgerOf s = ledger (map (closedOf (s .readings)) (s .closed)) (s .maxComparisons) (s .minComparisons)
 
 -- ---- the query list
 
@@ -101,17 +79,18 @@ pub record ListIs (s : model.State) (l : Queries) : Type 0 where
 -- n, P, M and N, the open partial and the board are the model's
 pub record StateIs (s : model.State) (st : State) (t : Tables) : Type 0 where
   pub count : st .count ≡ count s
-  pub closed : st .closed ≡ length (s .closed)
-  pub maxComparisons : st .maxima .comparisons ≡ s .maxComparisons
-  pub minComparisons : st .minima .comparisons ≡ s .minComparisons
   pub partial : OpenIs (st .partial) s
-  pub board : Holds s st t
+  pub board : Holds (horizonOf s) (ledgerOf s) (st .board) t
 
 -- the machine represents the state s of the model, which has the invariant, as all that calls lead to has, and whose
 -- readings are signed 32-bit numbers
-pub record Represents (s : model.State) (m : Machine) : Type 0 where
-  pub invariant : Invariant s
+pub record RepresentsAt (limit : ℕ) (s : model.State) (m : Machine) : Type 0 where
+  pub invariant : InvariantAt limit s
   pub readings : Each IsReading (s .readings)
   pub long : tablesLong (m .tables) ≡ true
   pub queries : ListIs s (m .queries)
   pub state : StateIs s (m .state) (m .tables)
+
+-- with the limit of this form
+abbrev pub Represents : model.State → Machine → Type 0
+Represents s m = RepresentsAt countLimit s m

@@ -1,25 +1,15 @@
 -- The open partial, as the engine keeps it: the aggregates of its readings in place of the readings.
 -- Assumes nothing.
 use Prim.Native.Nat.{ℕ, _-_, _*_, _+_, _≤_, _<_}
-use lib.IntN.{ℤ, _+ℤ_}
-use lib.Signed.{leZ}
+use lib.IntN.{ℤ}
 use Rattle.ints.specs.Sizes.{Small}
-use Rattle.window.specs.Orders.{geZ, greater}
 use Rattle.window.specs.Queries.{lengthLimit}
-use Rattle.engine.specs.declared.partial.Aggregate.{Aggregate}
+use Rattle.board.specs.declared.aggregate.Aggregate.{Aggregate}
+use Rattle.board.specs.Aggregates.{firstReading, extended}
 use Rattle.engine.specs.declared.partial.Open.{Open}
 use Rattle.engine.specs.declared.partial.Open.the-variants.{Nothing, Empty, Holding}
 
 -- ---- a reading joins
-
--- one reading, the first after the start: a maximum starts from it, not from 0
-abbrev pub firstReading : ℕ → ℤ → Aggregate
-firstReading start v = record { start = start; sum = v; maximum = v; minimum = v }
-
--- with one reading more
-abbrev pub extended : ℤ → Aggregate → Aggregate
-extended v a =
-    record { start = a .start; sum = a .sum +ℤ v; maximum = greater leZ (a .maximum) v; minimum = greater geZ (a .minimum) v }
 
 -- the open partial with the reading after n
 abbrev pub openWith : ℕ → ℤ → Open → Open

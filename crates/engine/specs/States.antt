@@ -1,18 +1,15 @@
 -- The engine's state: what check 2 asks of it, and what a start, a reading and a withdrawal make of it.
 -- Assumes nothing.
-use Prim.Native.Nat.{ℕ, _+_, _-_, _*_, _≤_}
+use Prim.Native.Nat.{ℕ, _+_, _≤_}
 use mathlib.Core.Path.{_≡_}
 use mathlib.Core.Bool.{Bool, true, false, cond}
-use mathlib.Core.List.{List, []}
 use lib.Dec.{eqb}
 use lib.IntN.{ℤ}
-use Rattle.deque.specs.Rings.{Fits}
-use Rattle.deque.specs.Extremes.{entriesOf}
-use Rattle.deque.specs.Sums.{partialsOf, FitsSums, InBounds}
 use Rattle.window.specs.declared.refusal.Refusal.the-variants.{TableTooShort, Damaged}
 use Rattle.window.specs.declared.refusal.Verdict.{Verdict}
 use Rattle.window.specs.declared.refusal.Verdict.the-variants.{Refused}
 use Rattle.window.specs.Refusals.{damaged}
+use Rattle.board.specs.Boards.{Within, EmptyEnsures}
 use Rattle.registry.specs.declared.queries.Queries.{Queries}
 use Rattle.registry.specs.Records.{used}
 use Rattle.engine.specs.declared.partial.Open.{Open}
@@ -22,19 +19,11 @@ use Rattle.engine.specs.Open.{openWith, FitsOpen}
 
 -- ---- what check 2 asks of the state
 
--- M and N are at most 2 P - 2, which is 0 where P is 0
-abbrev pub totalLimit : ℕ → ℕ
-totalLimit closed = 2 * closed - 2
-
 -- a state that check 2 lets pass; every state that came from a start is one
 pub record Sound (st : State) : Type 0 where
-  pub early : st .closed ≤ st .count
-  pub sums : FitsSums (st .sums)
-  pub maxRing : Fits (st .maxima .ring)
-  pub maxTotal : st .maxima .comparisons ≤ totalLimit (st .closed)
-  pub minRing : Fits (st .minima .ring)
-  pub minTotal : st .minima .comparisons ≤ totalLimit (st .closed)
-  pub partial : FitsOpen (st .count) (st .closed) (st .partial)
+  pub early : st .board .closed ≤ st .count
+  pub board : Within (st .board)
+  pub partial : FitsOpen (st .count) (st .board .closed) (st .partial)
 
 -- state and query list pass check 2
 pub record Intact (st : State) (l : Queries) : Type 0 where
@@ -53,45 +42,20 @@ pub data Judged (long : Bool) (st : State) (l : Queries) (own : Verdict) : Verdi
 -- nothing is counted, open or held, whatever the tables hold
 pub record FreshState (st : State) : Type 0 where
   pub count : st .count ≡ 0
-  pub closed : st .closed ≡ 0
   pub partial : st .partial ≡ Nothing
-  pub sums : FitsSums (st .sums)
-  pub noSums : (starts : List ℕ) (sums : List ℤ) → partialsOf starts sums (st .sums) ≡ []
-  pub bounds : (sums : List ℤ) → InBounds sums (st .sums)
-  pub maxRing : Fits (st .maxima .ring)
-  pub noMaxima : (starts : List ℕ) (values : List ℤ) → entriesOf starts values (st .maxima .ring) ≡ []
-  pub maxTotal : st .maxima .comparisons ≡ 0
-  pub minRing : Fits (st .minima .ring)
-  pub noMinima : (starts : List ℕ) (values : List ℤ) → entriesOf starts values (st .minima .ring) ≡ []
-  pub minTotal : st .minima .comparisons ≡ 0
+  pub board : EmptyEnsures (st .board)
 
 -- ---- a reading joins
 
 -- n grows by one, and the reading joins the open partial
 abbrev pub withReading : ℤ → State → State
-withReading v st =
-    record {
-      count = st .count + 1;
-      closed = st .closed;
-      partial = openWith (st .count) v (st .partial);
-      sums = st .sums;
-      maxima = st .maxima;
-      minima = st .minima;
-    }
+withReading v st = record { count = st .count + 1; partial = openWith (st .count) v (st .partial); board = st .board }
 
 -- ---- another partial is open
 
 -- this is open, and the rest is as it was
 abbrev pub withPartial : Open → State → State
-withPartial o st =
-    record {
-      count = st .count;
-      closed = st .closed;
-      partial = o;
-      sums = st .sums;
-      maxima = st .maxima;
-      minima = st .minima;
-    }
+withPartial o st = record { count = st .count; partial = o; board = st .board }
 
 -- what is open is dropped where no query is left
 abbrev pub openWhileAny : ℕ → State → State

@@ -2,25 +2,25 @@
 use crate::state::State;
 use registry::checks::ANSWER_PLACES;
 use registry::queries::Queries;
-use window::query::Count;
+use window::count::Count;
 use window::query::Query;
 ghost use mathlib.Core.Path.{_≡_};
 ghost use mathlib.Core.Bool.{true};
 ghost use mathlib.Core.List.{List, map};
-ghost use Prim.Native.Nat.{_+_, _*_, _≤_};
+ghost use Prim.Native.Nat.{ℕ, _+_, _*_, _≤_};
 ghost use lib.ListN.{length};
 ghost use Rattle.window.specs.Lists.{Each};
-ghost use Rattle.window.specs.Queries.{Limits};
+ghost use Rattle.window.specs.Queries.{Limits, windowStart};
 ghost use Rattle.window.specs.Refusals.{answerPlaces, dueAt};
 ghost use Rattle.window.specs.Calls.{Answer};
-ghost use Rattle.deque.specs.Rings.{Fits};
-ghost use Rattle.deque.specs.Sums.{FitsSums};
 ghost use Rattle.registry.specs.Records.{recordLimit, used};
-ghost use Rattle.engine.specs.Tables.{tables, tablesLong};
-ghost use Rattle.engine.specs.Answers.{answerWith, putAt, answeredPlaces, valueFrom, answerFrom, InOrder};
+ghost use Rattle.board.specs.Tables.{tables, tablesLong};
+ghost use Rattle.board.specs.Ledgers.{Ledger};
+ghost use Rattle.board.specs.Boards.{Usable, Holds};
+ghost use Rattle.engine.specs.Answers.{answerWith, putAt, answeredPlaces, valueIn, answerIn, Backing};
 
 // One answer is written: query number, kind, count of readings in the window, value.
-fn put_answer(answers: &mut [i64], at: usize, q: Query, count: Count, value: i64)
+fn put_answer(answers: &mut [i64], at: usize, q: Query, count: u32, value: i64)
     requires { ⌜ at + answerPlaces ≤ length (now answers) ⌝ }
     ensures { λ _. ⌜ now (answers .exit) ≡ putAt at (answerWith q count value) (now (answers .entry)) ⌝ }
 {
@@ -42,26 +42,26 @@ impl State {
         min_starts: &[Count],
         min_values: &[i32],
     ) -> i64
-        requires { ⌜ FitsSums (self .sums) × Fits (self .maxima .ring) × Fits (self .minima .ring) × (q .origin ≤ self .count)
+        requires { ⌜ Usable (self .board) × (q .origin ≤ self .count)
             × (tablesLong (tables (now starts) (now sums) (now «max_starts») (now «max_values») (now «min_starts») (now «min_values»)) ≡ true) ⌝ }
-        ensures { λ r. ⌜ (InOrder self (tables (now (starts .entry)) (now (sums .entry)) (now («max_starts» .entry)) (now («max_values» .entry)) (now («min_starts» .entry)) (now («min_values» .entry)))
-            → r ≡ valueFrom self (tables (now (starts .entry)) (now (sums .entry)) (now («max_starts» .entry)) (now («max_values» .entry)) (now («min_starts» .entry)) (now («min_values» .entry))) q) ⌝ }
+        ensures { λ r. ⌜ ((h : ℕ) (l : Ledger) → Holds h l (self .board) (tables (now (starts .entry)) (now (sums .entry)) (now («max_starts» .entry)) (now («max_values» .entry)) (now («min_starts» .entry)) (now («min_values» .entry))) → h ≤ windowStart (self .count) q
+            → r ≡ valueIn (l .closed) (self .count) q) ⌝ }
     {
         let n = self.count;
-        let from = q.window_start(n);
-        if q.kind == 1 {
-            let partials = self.sums;
-            return partials.sum_from(starts, sums, from);
-        }
         if q.kind == 2 {
             return q.window_count(n) as i64;
         }
-        if q.kind == 3 {
-            let maxima = self.maxima;
-            return maxima.extreme_from(max_starts, max_values, from) as i64;
-        }
-        let minima = self.minima;
-        minima.extreme_from(min_starts, min_values, from) as i64
+        let board = self.board;
+        board.value_from(
+            q.kind,
+            q.window_start(n),
+            starts,
+            sums,
+            max_starts,
+            max_values,
+            min_starts,
+            min_values,
+        )
     }
 
     // The queries due at n are answered in registration order, four places each, from the first place on. Returned is
@@ -77,14 +77,14 @@ impl State {
         min_values: &[i32],
         answers: &mut [i64],
     ) -> usize
-        requires { ⌜ FitsSums (self .sums) × Fits (self .maxima .ring) × Fits (self .minima .ring)
+        requires { ⌜ Usable (self .board)
             × (queries .count ≤ recordLimit) × Each Limits (used queries) × Each (λ (q : Query). q .origin ≤ self .count) (used queries)
             × (answerPlaces * length (dueAt (self .count) (used queries)) ≤ length (now answers))
             × (tablesLong (tables (now starts) (now sums) (now «max_starts») (now «max_values») (now «min_starts») (now «min_values»)) ≡ true) ⌝ }
         ensures count { λ r. ⌜ r ≡ length (dueAt (self .count) (used queries)) ⌝ }
         ensures places { λ r. ⌜ ((given : List Answer) × (length given ≡ r) × (now (answers .exit) ≡ answeredPlaces given (now (answers .entry)))
-            × (InOrder self (tables (now (starts .entry)) (now (sums .entry)) (now («max_starts» .entry)) (now («max_values» .entry)) (now («min_starts» .entry)) (now («min_values» .entry)))
-            → given ≡ map (answerFrom self (tables (now (starts .entry)) (now (sums .entry)) (now («max_starts» .entry)) (now («max_values» .entry)) (now («min_starts» .entry)) (now («min_values» .entry)))) (dueAt (self .count) (used queries)))) ⌝ }
+            × ((x : Backing (self .count) (used queries) (self .board) (tables (now (starts .entry)) (now (sums .entry)) (now («max_starts» .entry)) (now («max_values» .entry)) (now («min_starts» .entry)) (now («min_values» .entry))))
+            → given ≡ map (answerIn (x .ledger .closed) (self .count)) (dueAt (self .count) (used queries)))) ⌝ }
     {
         let n = self.count;
         let mut answered = 0;

@@ -5,13 +5,11 @@ use crate::checks::judge_register;
 use crate::checks::judge_withdraw;
 use crate::partial::Open;
 use crate::state::State;
-use crate::tables::enough;
-use crate::tables::zero_starts;
-use crate::tables::zero_sums;
-use crate::tables::zero_values;
-use registry::checks::COUNT_LIMIT;
+use board::tables::enough;
+use board::tables::zero;
 use registry::queries::Queries;
-use window::query::Count;
+use window::count::COUNT_LIMIT;
+use window::count::Count;
 use window::query::Query;
 use window::refusal::Refusal;
 use window::refusal::Verdict;
@@ -19,7 +17,7 @@ ghost use mathlib.Core.Path.{_≡_};
 ghost use Prim.Native.Nat.{_+_, _<_, _≤_};
 ghost use Rattle.window.specs.Queries.{countLimit};
 ghost use Rattle.window.specs.Calls.{start, register, withdraw, reading, totals};
-ghost use Rattle.engine.specs.Tables.{tables};
+ghost use Rattle.board.specs.Tables.{tables};
 ghost use Rattle.engine.specs.Machine.{machine};
 ghost use Rattle.engine.specs.Outcomes.{verdictOutcome, readingOutcome, totalsOutcome};
 ghost use Rattle.engine.specs.Contracts.{StartEnsures, Ensures, ReadingEnsures};
@@ -112,12 +110,7 @@ pub fn start(
     if !long {
         return refused(state, queries, Refusal::TableTooShort);
     }
-    zero_starts(starts);
-    zero_sums(sums);
-    zero_starts(max_starts);
-    zero_values(max_values);
-    zero_starts(min_starts);
-    zero_values(min_values);
+    zero(starts, sums, max_starts, max_values, min_starts, min_values);
     let state = State::fresh();
     let queries = Queries::empty();
     Reply {
@@ -249,11 +242,12 @@ pub fn totals(
     if let Verdict::Refused(refusal) = judge(long, broken, state) {
         return TotalsReply::Refused(refusal);
     }
-    let maxima = state.maxima;
-    let minima = state.minima;
+    let board = state.board;
+    let maxima = board.maxima;
+    let minima = board.minima;
     TotalsReply::Totals(
         state.count,
-        state.closed,
+        board.closed,
         maxima.comparisons,
         minima.comparisons,
     )

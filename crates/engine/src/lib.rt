@@ -3,6 +3,5 @@ pub mod partial; // the open partial
 pub mod state; // the state, and what is judged on it
 pub mod closing; // a partial closes
 pub mod answers; // the due queries are answered
-pub mod tables; // the lent tables: their lengths, and zeroing them
 pub mod checks; // the checks of a call on entry
 pub mod calls; // the open calls

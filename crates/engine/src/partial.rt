@@ -1,25 +1,17 @@
 // The open partial: the readings since its start, aggregated.
-use deque::compare::Extreme;
-use window::query::Count;
+use board::aggregate::Aggregate;
+use window::count::Count;
+use window::count::count_of;
+use window::count::wide;
 use window::query::LENGTH_LIMIT;
 ghost use mathlib.Core.Path.{_≡_};
 ghost use mathlib.Core.Bool.{true};
-ghost use Prim.Native.Nat.{_<_};
 ghost use Rattle.ints.specs.Sizes.{Small};
-ghost use Rattle.window.specs.Orders.{greater};
-ghost use Rattle.deque.specs.Extremes.{orderOf};
-ghost use Rattle.engine.specs.Open.{sizeLimit, firstReading, extended, openWith, FitsAggregate, FitsOpen};
+ghost use Rattle.deque.specs.Sums.{sumLimit};
+ghost use Rattle.engine.specs.Open.{openWith, FitsAggregate, FitsOpen};
 
 // The greatest size of a reading: 2^31.
 pub const READING_SIZE: u64 = 2_147_483_648;
-
-// The aggregates of a partial that holds a reading, and its start.
-pub struct Aggregate {
-    pub start: Count,
-    pub sum: i64,
-    pub maximum: i32,
-    pub minimum: i32,
-}
 
 // Document 01: the open partial, or none.
 pub enum Open {
@@ -31,68 +23,27 @@ pub enum Open {
     Holding(Aggregate),
 }
 
-// The greater of two readings, by the order of maxima or of minima; the later of equals.
-fn greater(extreme: Extreme, a: i32, b: i32) -> i32
-    ensures { λ r. ⌜ r ≡ greater (orderOf extreme) a b ⌝ }
+// Whether these can be the aggregates of the open partial, with n readings taken and `closed` partials closed.
+fn aggregate_fits(a: Aggregate, n: Count, closed: Count) -> bool
+    ensures { λ r. ⌜ (r ≡ true → FitsAggregate n closed a) × (FitsAggregate n closed a → r ≡ true) ⌝ }
 {
-    match extreme {
-        Extreme::Maximum => { if a <= b { b } else { a } }
-        Extreme::Minimum => { if b <= a { b } else { a } }
+    if a.start < closed {
+        return false;
     }
-}
-
-impl Aggregate {
-    // One reading, the first after `start`.
-    fn first(start: Count, value: i32) -> Aggregate
-        ensures { λ r. ⌜ r ≡ firstReading start value ⌝ }
-    {
-        let wide = value as i64;
-        Aggregate {
-            start,
-            sum: wide,
-            maximum: value,
-            minimum: value,
-        }
+    if n <= a.start {
+        return false;
     }
-
-    // With one reading more.
-    fn extended(self, value: i32) -> Aggregate
-        requires { ⌜ Small sizeLimit (self .sum) ⌝ }
-        ensures { λ r. ⌜ r ≡ extended value self ⌝ }
-    {
-        let sum = ints::add_widened(self.sum, value);
-        let maximum = greater(Extreme::Maximum, self.maximum, value);
-        let minimum = greater(Extreme::Minimum, self.minimum, value);
-        Aggregate {
-            start: self.start,
-            sum,
-            maximum,
-            minimum,
-        }
+    let held = n - a.start;
+    if count_of(LENGTH_LIMIT) <= held {
+        return false;
     }
-
-    // Whether this can be the open partial, with n readings taken and `closed` partials closed.
-    fn fits(self, n: Count, closed: Count) -> bool
-        ensures { λ r. ⌜ (r ≡ true → FitsAggregate n closed self) × (FitsAggregate n closed self → r ≡ true) ⌝ }
-    {
-        if self.start < closed {
-            return false;
-        }
-        if n <= self.start {
-            return false;
-        }
-        let held = n - self.start;
-        if LENGTH_LIMIT <= held {
-            return false;
-        }
-        ints::is_small(held as u64 * READING_SIZE, self.sum)
-    }
+    ints::is_small(wide(held) * READING_SIZE, a.sum)
 }
 
 impl Open {
     // With one reading more, the first after n.
     pub(crate) fn extended(self, n: Count, value: i32) -> Open
-        requires { ⌜ ((a : Aggregate) → self ≡ Open.Holding a → Small sizeLimit (a .sum)) ⌝ }
+        requires { ⌜ ((a : Aggregate) → self ≡ Open.Holding a → Small sumLimit (a .sum)) ⌝ }
         ensures { λ r. ⌜ r ≡ openWith n value self ⌝ }
     {
         match self {
@@ -109,7 +60,7 @@ impl Open {
         match self {
             Open::Nothing => true,
             Open::Empty => true,
-            Open::Holding(a) => a.fits(n, closed),
+            Open::Holding(a) => aggregate_fits(a, n, closed),
         }
     }
 }

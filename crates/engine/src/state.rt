@@ -1,51 +1,21 @@
 // The engine's state: it goes in by value and comes back.
 use crate::partial::Open;
-use deque::extremes::Deque;
-use deque::sums::Sums;
-use window::query::Count;
+use board::board::Board;
+use window::count::Count;
 ghost use mathlib.Core.Path.{_≡_};
 ghost use mathlib.Core.Bool.{true};
-ghost use Prim.Native.Nat.{_+_, _-_, _*_, _<_, _≤_};
+ghost use Prim.Native.Nat.{_<_};
 ghost use Rattle.window.specs.Queries.{countLimit};
-ghost use Rattle.deque.specs.Rings.{Fits};
-ghost use Rattle.engine.specs.States.{Sound, totalLimit, withReading, withPartial, openWhileAny, FreshState};
+ghost use Rattle.engine.specs.States.{Sound, withReading, withPartial, openWhileAny, FreshState};
 
 // What the engine knows between two calls, beside the query list and the lent tables.
 pub struct State {
     // Document 01's n: the count of accepted readings since the start.
     pub count: Count,
-    // P: the count of closed partials since the start.
-    pub closed: Count,
     // The open partial.
     pub partial: Open,
-    // The closed partials with their sums.
-    pub sums: Sums,
-    // The standing partials for maxima, with M.
-    pub maxima: Deque,
-    // The standing partials for minima, with N.
-    pub minima: Deque,
-}
-
-// Whether a total of comparisons can be that of so many closed partials: at most 2 P - 2, and 0 where P is 0.
-fn total_fits(total: u64, closed: Count) -> bool
-    ensures { λ r. ⌜ (r ≡ true → total ≤ totalLimit closed) × (total ≤ totalLimit closed → r ≡ true) ⌝ }
-{
-    if closed == 0 {
-        return total == 0;
-    }
-    total <= 2 * (closed as u64) - 2
-}
-
-// Whether a deque that was handed in can be used, with so many partials closed.
-fn deque_fits(deque: Deque, closed: Count) -> bool
-    ensures { λ r. ⌜ (r ≡ true → Fits (deque .ring) × (deque .comparisons ≤ totalLimit closed))
-        × (Fits (deque .ring) × (deque .comparisons ≤ totalLimit closed) → r ≡ true) ⌝ }
-{
-    let ring = deque.ring;
-    if ring.fits() {
-        return total_fits(deque.comparisons, closed);
-    }
-    false
+    // The closed partials, with P, M and N.
+    pub board: Board,
 }
 
 impl State {
@@ -53,16 +23,11 @@ impl State {
     pub fn fresh() -> State
         ensures { λ r. ⌜ FreshState r ⌝ }
     {
-        let sums = Sums::empty();
-        let maxima = Deque::empty();
-        let minima = Deque::empty();
+        let board = Board::empty();
         State {
             count: 0,
-            closed: 0,
             partial: Open::Nothing,
-            sums,
-            maxima,
-            minima,
+            board,
         }
     }
 
@@ -70,22 +35,15 @@ impl State {
     pub(crate) fn fits(self) -> bool
         ensures { λ r. ⌜ (r ≡ true → Sound self) × (Sound self → r ≡ true) ⌝ }
     {
-        let closed = self.closed;
-        if self.count < closed {
+        let board = self.board;
+        if self.count < board.closed {
             return false;
         }
-        let sums = self.sums;
-        if !sums.fits() {
-            return false;
-        }
-        if !deque_fits(self.maxima, closed) {
-            return false;
-        }
-        if !deque_fits(self.minima, closed) {
+        if !board.fits() {
             return false;
         }
         let partial = self.partial;
-        partial.fits(self.count, closed)
+        partial.fits(self.count, board.closed)
     }
 
     // With one reading more: n grows by one, and the reading joins the open partial.
@@ -95,16 +53,11 @@ impl State {
     {
         let before = self.partial;
         let partial = before.extended(self.count, value);
-        let sums = self.sums;
-        let maxima = self.maxima;
-        let minima = self.minima;
+        let board = self.board;
         State {
             count: self.count + 1,
-            closed: self.closed,
             partial,
-            sums,
-            maxima,
-            minima,
+            board,
         }
     }
 
@@ -112,16 +65,11 @@ impl State {
     pub(crate) fn with_partial(self, partial: Open) -> State
         ensures { λ r. ⌜ r ≡ withPartial partial self ⌝ }
     {
-        let sums = self.sums;
-        let maxima = self.maxima;
-        let minima = self.minima;
+        let board = self.board;
         State {
             count: self.count,
-            closed: self.closed,
             partial,
-            sums,
-            maxima,
-            minima,
+            board,
         }
     }
 

@@ -10,7 +10,7 @@ use Rattle.registry.specs.declared.queries.Queries.{Queries}
 use Rattle.registry.specs.Records.{recordLimit}
 use Rattle.engine.specs.declared.calls.Reply.{Reply}
 use Rattle.engine.specs.declared.state.State.{State}
-use Rattle.engine.specs.Tables.{Tables}
+use Rattle.board.specs.Tables.{Tables}
 use Rattle.engine.specs.Machine.{Machine, machine}
 use Rattle.engine.specs.Outcomes.{verdictOutcome}
 use Rattle.engine.specs.Contracts.{Promise, ReadingEnsures}

@@ -13,13 +13,13 @@ use Rattle.window.specs.declared.query.Query.{Query}
 use Rattle.window.specs.Calls.{Outcome, accepted, refused}
 use Rattle.registry.specs.Records.{recordLimit}
 use Rattle.records.specs.LentList.{firstRecords, overwritten}
-use Rattle.engine.specs.Tables as tables
-use Rattle.engine.specs.Tables.{Tables, KeptBeyond}
+use Rattle.board.specs.Tables as tables
+use Rattle.board.specs.Tables.{Tables, KeptBeyond}
 use Rattle.engine.specs.Machine.{Machine}
 use Rattle.engine.specs.Contracts.{Promise}
 use Rattle.engine.proofs.Steady.{Steady}
 use Rattle.lent.specs.declared.held.Engine.{Engine}
-use Rattle.lent.specs.Lent.{lent, lentLong, machineWith}
+use Rattle.lent.specs.Lent.{lent, machineWith}
 use Rattle.lent.specs.Contracts.{OnLent}
 use Rattle.lent.specs.Copied.{recordsWritten, Copied, tooShort, performed}
 use Rattle.records.proofs.Lists.{first-long, overwritten-length, overwritten-first, overwritten-rest}

@@ -24,8 +24,8 @@ use Rattle.records.specs.LentList.{overwritten, appended, usedOf, without, fill
 use Rattle.records.proofs.Lists.{overwritten-first, overwritten-rest}
 use Rattle.records.proofs.Editing.{filled-length}
 use Rattle.engine.specs.Machine.{ListIs, Represents}
-use Rattle.engine.specs.Contracts.{Ensures, StartEnsures}
-use Rattle.engine.proofs.Stepping.{verdictOf, acceptedStep, step-judged}
+use Rattle.engine.specs.Contracts.{Ensures, StartEnsures, verdictOf}
+use Rattle.engine.proofs.Stepping.{acceptedStep, step-judged}
 use Rattle.engine.proofs.Accepting.{joining}
 use Rattle.lent.specs.declared.held.Engine.{Engine}
 use Rattle.lent.specs.Lent.{Lent, listLong, lentLong, listOf, lentMachine}

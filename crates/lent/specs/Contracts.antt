@@ -8,7 +8,7 @@ use mathlib.Core.List.{List}
 use lib.IntN.{ℤ}
 use Rattle.window.specs.Calls.{Outcome, refused}
 use Rattle.registry.specs.Records.{recordLimit}
-use Rattle.engine.specs.Tables.{KeptBeyond}
+use Rattle.board.specs.Tables.{KeptBeyond}
 use Rattle.engine.specs.Contracts.{Promise, ReadingEnsures, placesAfter}
 use Rattle.lent.specs.Lent.{Lent, listLong, lentLong, lentMachine}
 

@@ -7,7 +7,7 @@ use Rattle.window.specs.declared.refusal.Refusal.the-variants.{TableTooShort}
 use Rattle.window.specs.declared.refusal.Verdict.the-variants.{Refused}
 use Rattle.window.specs.Calls.{Outcome, accepted, refused}
 use Rattle.registry.specs.Records.{recordLimit}
-use Rattle.engine.specs.Tables.{Tables}
+use Rattle.board.specs.Tables.{Tables}
 use Rattle.engine.specs.declared.calls.Reply.{Reply}
 use Rattle.engine.specs.Outcomes.{verdictOutcome}
 use Rattle.engine.specs.Contracts.{Promise}

@@ -7,8 +7,8 @@ use lib.ListN.{length, take}
 use Rattle.window.specs.declared.query.Query.{Query}
 use Rattle.registry.specs.declared.queries.Queries.{Queries}
 use Rattle.registry.specs.Records.{recordLimit}
-use Rattle.engine.specs.Tables as tables
-use Rattle.engine.specs.Tables.{Tables}
+use Rattle.board.specs.Tables as tables
+use Rattle.board.specs.Tables.{Tables}
 use Rattle.engine.specs.Machine.{Machine, machine}
 use Rattle.lent.specs.declared.held.Engine.{Engine}
 

@@ -3,3 +3,4 @@
 pub mod fields; // a line's fields, one after the other
 pub mod numbers; // digits, and the widths of numbers
 pub mod line; // a whole line
+pub mod kept; // the current line of an input, as it comes

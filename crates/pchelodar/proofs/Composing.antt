@@ -13,7 +13,7 @@ use lib.ListN.{length, take, length-append, length-take}
 use types.Run.{OneOf, miss}
 use denote.Enum.Declared.{tagOf}
 use Rattle.io.specs.Counts.{clamped}
-use Rattle.engine.specs.Tables.{Tables}
+use Rattle.board.specs.Tables.{Tables}
 use Rattle.session.specs.Contracts.{Held, lineLimit}
 use Rattle.session.specs.Whole.{Reached, Carries, CarriesLimit, RanAll}
 use Rattle.session.proofs.Whole.{whole-session}
@@ -21,7 +21,7 @@ use Rattle.session.proofs.Composing.{carries-nothing, carries-then, limit-many,
 use Rattle.pchelodar.specs.declared.Progress.{Progress}
 use Rattle.pchelodar.specs.declared.Progress.the-variants as progress
 use Rattle.pchelodar.proofs.Progress.{the-type}
-use Rattle.pchelodar.specs.Contracts.{Told, afterWrite, afterFeed, ChunkFed, Read, readOf, size, brought, Failed, FoundEnd, AfterRead, Intake, none, next, ReadsFed, SomeFed, Heard, AllRead, ReachedReads, Handed, afterReads, RanReads, Concluded, WholeRun}
+use Rattle.pchelodar.specs.Contracts.{Told, afterWrite, afterFeed, ChunkFed, Read, readOf, size, brought, Failed, FoundEnd, AfterRead, Intake, none, next, ReadsFed, SomeFed, Heard, AllRead, ReachedReads, Handed, afterReads, Concluded, WholeRun}
 
 -- ---- what a write said
 

@@ -10,7 +10,7 @@ use lib.IntN.{ℤ, pos}
 use lib.Signed.{ltZ}
 use lib.ListN.{length, take}
 use Rattle.io.specs.Counts.{clamped}
-use Rattle.engine.specs.Tables.{Tables}
+use Rattle.board.specs.Tables.{Tables}
 use Rattle.session.specs.Meaning.{sessionOutput}
 use Rattle.session.specs.Contracts.{Held}
 use Rattle.session.specs.Whole.{Reached, ReachedLimit, Carries, CarriesLimit, RanAll}

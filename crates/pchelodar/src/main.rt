@@ -5,12 +5,12 @@ use libc::STDERR_FILENO;
 use libc::STDIN_FILENO;
 use libc::STDOUT_FILENO;
 use session::stream::Session;
-use window::query::Count;
+use window::count::Count;
 ghost use mathlib.Core.Path.{_≡_};
 ghost use mathlib.Core.Bool.{true};
 ghost use Prim.Native.Nat.{_≤_};
 ghost use lib.ListN.{length};
-ghost use Rattle.engine.specs.Tables.{Tables, tables, tablesLong};
+ghost use Rattle.board.specs.Tables.{Tables, tables, tablesLong};
 ghost use Rattle.session.specs.Contracts.{held, finishRoom};
 ghost use Rattle.pchelodar.specs.Contracts.{Told, afterWrite, afterFeed, ChunkFed, readOf, AfterRead, Heard, AllRead, Handed, afterReads, Concluded};
 
@@ -334,11 +334,11 @@ fn run(
 }
 
 fn main() {
-    let mut starts = [0u32; CAPACITY];
+    let mut starts: [Count; CAPACITY] = [0; CAPACITY];
     let mut sums = [0i64; CAPACITY];
-    let mut max_starts = [0u32; CAPACITY];
+    let mut max_starts: [Count; CAPACITY] = [0; CAPACITY];
     let mut max_values = [0i32; CAPACITY];
-    let mut min_starts = [0u32; CAPACITY];
+    let mut min_starts: [Count; CAPACITY] = [0; CAPACITY];
     let mut min_values = [0i32; CAPACITY];
     let mut chunk = io::large_buffer();
     let mut out = io::large_buffer();

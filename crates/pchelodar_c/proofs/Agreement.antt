@@ -22,15 +22,14 @@ use Rattle.engine.specs.Machine.{ListIs}
 use Rattle.engine.specs.Outcomes.{readingOutcome}
 use Rattle.engine.specs.Contracts.{Promise, InRows, Ensures, ReadingEnsures, StartEnsures}
 use Rattle.engine.specs.Demand3 as below
-use Rattle.engine.specs.Demand3.{Performed}
-use Rattle.engine.proofs.Agreement as engine
-use Rattle.engine.proofs.Carrying.{carried-run}
-use Rattle.pchelodar_c.specs.Written.{listNumbers, numbersIn}
-use Rattle.pchelodar_c.specs.Slices.{Slices, roomFor, numbersLong, slicesLong, slicesMachine}
+use Rattle.engine.specs.Demand3.{machineLong}
+use Rattle.encoding.proofs.Copies.{numbers-are}
+use Rattle.encoding.proofs.Places.{room-list}
+use Rattle.engine.proofs.Carrying.{carried-run, carried-demand-3, carried-from-start, carried-live, carried-never-damaged}
+use Rattle.encoding.specs.Written.{listNumbers, numbersIn, roomFor}
+use Rattle.pchelodar_c.specs.Slices.{Slices, numbersLong, slicesLong, slicesMachine}
 use Rattle.pchelodar_c.specs.Contracts.{codeOutcome, readingCodeOutcome, totalsCodeOutcome, OnNumbers, ReadingOnNumbers, TotalsOnNumbers}
-use Rattle.pchelodar_c.specs.Demand3.{Returned, ReadingReturned, TotalsReturned, Performs, Fresh, Demand3, FromStart, BoardLive, NeverDamaged, StartZeroes}
-use Rattle.pchelodar_c.proofs.Copies.{numbers-are}
-use Rattle.pchelodar_c.proofs.Calling.{room-list}
+use Rattle.pchelodar_c.specs.Demand3.{Returned, ReadingReturned, TotalsReturned, Performs, Demand3, FromStart, BoardLive, NeverDamaged, StartZeroes}
 
 -- ---- what meets the contract of a function is one of the calls that demand 3 speaks of
 
@@ -112,11 +111,13 @@ performs totals m o m′ l e = totals-returned m o m′ l e
 
 -- ---- a list of calls
 
--- so is a list of them from a start on
-from-below : (fresh : Slices) → Fresh fresh → (calls : List Call) (outcomes : List Outcome) (m : Slices) → Performed Performs fresh calls outcomes m
-    → below.Fresh (slicesMachine fresh) × Performed below.Performs (slicesMachine fresh) calls outcomes (slicesMachine m) × (numbersLong m ≡ true)
-from-below fresh f =
-    carried-run slicesMachine (λ (m : Slices). numbersLong m ≡ true) Performs performs (f .before) fresh (f .outcome) (and-left (numbersLong (f .before)) _ (f .long)) (and-right (numbersLong (f .before)) _ (f .long)) (f .started)
+-- there is room for the numbers of state and query list
+abbrev Room : Slices → Type 0
+Room m = numbersLong m ≡ true
+
+-- so there is where check 1 passes, and the six tables are long enough
+opens : (m : Slices) → slicesLong m ≡ true → Room m × (machineLong (slicesMachine m) ≡ true)
+opens m l = (and-left (numbersLong m) _ l, and-right (numbersLong m) _ l)
 
 -- the numbers of the query list, where it is read as the model's
 list-numbers : (s : State) (m : Slices) → numbersLong m ≡ true → ListIs s (slicesMachine m .queries)
@@ -125,33 +126,25 @@ list-numbers s m l i =
     numbers-are recordLimit (m .queries) (room-list _ (length (m .queries)) l)
     ∙ ap numbersIn (i .tidy ∙ ap₂ (λ (qs : List Query) (n : ℕ). qs ++ replicate (recordLimit - n) unused) (i .used) (i .count))
 
+-- what came from a start represents the model's state
+pub from-start : FromStart
+from-start = carried-from-start slicesMachine slicesLong Performs Room opens performs
+
 -- demand 3
 pub demand-3 : Demand3
 demand-3 fresh f calls outcomes m p =
-    let b = from-below fresh f calls outcomes m p in
-    let a = engine.demand-3 (slicesMachine fresh) (b .0) calls outcomes (slicesMachine m) (b .1) in
-    let represented = engine.from-start (slicesMachine fresh) (b .0) calls outcomes (slicesMachine m) (b .1) in
     record {
-      agrees = a;
-      listed = list-numbers _ m (b .2) (represented .queries);
-      totalled = λ o m′ e. a .totalled o (slicesMachine m′) (totals-returned m o m′ (b .2) e .0);
+      agrees = carried-demand-3 slicesMachine slicesLong Performs Room opens performs fresh f calls outcomes m p;
+      listed = list-numbers _ m (carried-run slicesMachine slicesLong Performs Room opens performs fresh f calls outcomes m p .2) (from-start fresh f calls outcomes m p .queries);
     }
 
--- what came from a start represents the model's state
-pub from-start : FromStart
-from-start fresh f calls outcomes m p =
-    let b = from-below fresh f calls outcomes m p in engine.from-start (slicesMachine fresh) (b .0) calls outcomes (slicesMachine m) (b .1)
-
--- so its tables hold what is live, and what stands of it
+-- what came from a start has tables that hold what is live, and what stands of it
 pub from-start-live : BoardLive
-from-start-live fresh f calls outcomes m p =
-    let b = from-below fresh f calls outcomes m p in engine.from-start-live (slicesMachine fresh) (b .0) calls outcomes (slicesMachine m) (b .1)
+from-start-live = carried-live slicesMachine slicesLong Performs Room opens performs
 
--- what came from a start is never given 1 or 2
+-- and is never given 1 or 2
 pub never-damaged : NeverDamaged
-never-damaged fresh f calls outcomes m p c o m′ e =
-    let b = from-below fresh f calls outcomes m p in
-    engine.never-damaged (slicesMachine fresh) (b .0) calls outcomes (slicesMachine m) (b .1) c o (slicesMachine m′) (performs c m o m′ (b .2) e .0)
+never-damaged = carried-never-damaged slicesMachine slicesLong Performs Room opens performs
 
 -- ---- a start
 

@@ -5,16 +5,13 @@ use mathlib.Core.Path.{_≡_, refl, sym, ap, ap₂, _∙_, subst}
 use mathlib.Core.Bool.{Bool, true, false, false≢true, not, _&&_}
 use mathlib.Core.List.{List, [], _∷_}
 use native.Mathlib.Omega.{arith}
-use borrow.Author.Tests.{leb-true}
 use lib.IntN.{ℤ}
-use lib.Dec.{leb}
 use lib.ListN.{length, take}
 use Rattle.window.specs.declared.refusal.Refusal.{Refusal}
 use Rattle.window.specs.declared.refusal.Refusal.the-variants.{TableTooShort, Damaged, NumberOutside, KindOutside, RangeOutside, SlideOutside, NumberTaken, ListFull, NotRegistered, CountExhausted, AnswersTooShort, LineTooLong, UnknownLine, NotANumber, OutsideWidth}
 use Rattle.window.specs.Refusals.{refusalNumber}
 use Rattle.window.specs.Calls as Calls
 use Rattle.window.specs.Calls.{Answer, Outcome, accepted, refused}
-use Rattle.window.proofs.Lists.{and-left, and-right}
 use Rattle.registry.specs.declared.queries.Queries.{Queries}
 use Rattle.engine.specs.declared.state.State.{State}
 use Rattle.engine.specs.declared.calls.Reply.{Reply}
@@ -22,26 +19,18 @@ use Rattle.engine.specs.declared.calls.ReadingReply.{ReadingReply}
 use Rattle.engine.specs.declared.calls.TotalsReply.{TotalsReply}
 use Rattle.engine.specs.declared.calls.TotalsReply.the-variants as totals
 use Rattle.engine.specs.Answers.{answersIn}
-use Rattle.engine.specs.Tables as tables
-use Rattle.engine.specs.Tables.{Tables, KeptBeyond}
+use Rattle.board.specs.Tables as tables
+use Rattle.board.specs.Tables.{Tables, KeptBeyond}
 use Rattle.engine.specs.Outcomes as engine
 use Rattle.engine.specs.Machine.{Machine, machine}
-use Rattle.engine.specs.Contracts.{Promise, Ensures, ReadingEnsures, placesAfter}
+use Rattle.engine.specs.Contracts.{Promise, Ensures, ReadingEnsures}
 use Rattle.engine.proofs.Steady.{Steady, call-steady, reading-steady}
-use Rattle.pchelodar_c.specs.Written.{stateNumbers, listNumbers, stateOf, registeredIn, listOf}
-use Rattle.pchelodar_c.specs.Slices.{Slices, slices, roomFor, numbersLong, slicesLong, slicesMachine}
+use Rattle.encoding.specs.Written.{stateNumbers, listNumbers, stateOf, registeredIn, listOf, roomFor}
+use Rattle.pchelodar_c.specs.Slices.{slices, slicesLong, slicesMachine}
 use Rattle.pchelodar_c.specs.Contracts.{codeOutcome, readingCodeOutcome, totalsCodeOutcome, OnNumbers, ReadingOnNumbers, TotalsOnNumbers}
-use Rattle.pchelodar_c.specs.PutBack.{PutBack, nothingBack, allBack, ReadingBack, refusedBack, stateBack}
+use Rattle.pchelodar_c.specs.PutBack.{PutBack, nothingBack, allBack, ReadingBack, refusedBack, stateBack, TotalsBack, untold, told}
 
 -- ---- room for the numbers
-
-pub room-state : (a b : ℕ) → roomFor a b ≡ true → stateNumbers ≤ a
-unfolding roomFor
-room-state a b e = leb-true stateNumbers a (and-left (leb stateNumbers a) (leb listNumbers b) e)
-
-pub room-list : (a b : ℕ) → roomFor a b ≡ true → listNumbers ≤ b
-unfolding roomFor
-room-list a b e = leb-true listNumbers b (and-right (leb stateNumbers a) (leb listNumbers b) e)
 
 -- a test that is asked by its negation
 pub not-true : (b : Bool) → not b ≡ true → b ≡ false
@@ -167,14 +156,14 @@ made promise steady w ns t t′ st l reply r w′ ns′ room e f p (allBack v s 
     accepted-back promise steady w ns t t′ room (0 ∷ []) [] m′ w′ ns′ q (rw (s, c, rs) refl) a b
 
 -- a reading
-pub reading-made : (v : ℤ) (before after : List ℤ) (w ns : List ℕ) (t t′ : Tables) (st : State) (l : Queries) (reply : ReadingReply) (registered given r given′ : ℕ) (w′ : List ℕ)
-    → roomFor (length w) (length ns) ≡ true → registered ≡ registeredIn (take stateNumbers w) → st ≡ stateOf (take stateNumbers w) → l ≡ listOf registered ns
-    → ReadingEnsures v before after (machine st l t) (engine.readingOutcome (reply .outcome) after) (machine (reply .state) l t′) → ReadingBack reply registered w given r w′ given′
+pub reading-made : (v : ℤ) (before after : List ℤ) (w ns : List ℕ) (t t′ : Tables) (st : State) (l : Queries) (reply : ReadingReply) (given r given′ : ℕ) (w′ : List ℕ)
+    → roomFor (length w) (length ns) ≡ true → st ≡ stateOf (take stateNumbers w) → l ≡ listOf (registeredIn (take stateNumbers w)) ns
+    → ReadingEnsures v before after (machine st l t) (engine.readingOutcome (reply .outcome) after) (machine (reply .state) l t′) → ReadingBack reply w given r w′ given′
     → ReadingOnNumbers v before after given given′ (slices w ns t) (readingCodeOutcome r given′ after) (slices w′ ns t′)
-reading-made v before after w ns t t′ st l reply registered given r given′ w′ room n e f p (refusedBack refusal u) =
+reading-made v before after w ns t t′ st l reply given r given′ w′ room e f p (refusedBack refusal u) =
     let k = refusalNumber refusal in
     let m′ = machine (reply .state) l t′ in
-    let q : ReadingEnsures v before after (slicesMachine (slices w ns t)) (refused k) m′ = rw (← given-is w ns t st l e (f ∙ ap (λ (j : ℕ). listOf j ns) n), ← ap (λ o. engine.readingOutcome o after) u) p in
+    let q : ReadingEnsures v before after (slicesMachine (slices w ns t)) (refused k) m′ = rw (← given-is w ns t st l e f, ← ap (λ o. engine.readingOutcome o after) u) p in
     subst (λ (o : Outcome). ReadingOnNumbers v before after given given (slices w ns t) o (slices w ns t′)) (sym (reading-refused k given after (counted refusal)))
     (record {
       onNumbers = refused-back (ReadingEnsures v before after) (reading-steady v before after) w ns t t′ room k m′ q refl;
@@ -182,9 +171,9 @@ reading-made v before after w ns t t′ st l reply registered given r given′ w
       unanswered = λ j i. refl;
       alone = refl;
     })
-reading-made v before after w ns t t′ st l reply registered given r given′ w′ room n e f p (stateBack k u s c a) =
+reading-made v before after w ns t t′ st l reply given r given′ w′ room e f p (stateBack k u s c a) =
     let m′ = machine (reply .state) l t′ in
-    let q : ReadingEnsures v before after (slicesMachine (slices w ns t)) (readingCodeOutcome 0 k after) m′ = rw (← given-is w ns t st l e (f ∙ ap (λ (j : ℕ). listOf j ns) n), ← ap (λ o. engine.readingOutcome o after) u) p in
+    let q : ReadingEnsures v before after (slicesMachine (slices w ns t)) (readingCodeOutcome 0 k after) m′ = rw (← given-is w ns t st l e f, ← ap (λ o. engine.readingOutcome o after) u) p in
     record {
       onNumbers = accepted-back (ReadingEnsures v before after) (reading-steady v before after) w ns t t′ room (k ∷ []) (answersIn k after) m′ w′ ns q (rw (s, c, f) refl) a (kept-all listNumbers ns);
       places = q .places;
@@ -193,28 +182,23 @@ reading-made v before after w ns t t′ st l reply registered given r given′ w
     }
 
 -- with a reading as the machine has it
-pub reading-made-of : {v₀ v : ℤ} {before after : List ℤ} {w ns : List ℕ} {t t′ : Tables} {st : State} {l : Queries} {reply : ReadingReply} {registered given r given′ : ℕ} {w′ : List ℕ} → v₀ ≡ v
-    → roomFor (length w) (length ns) ≡ true → registered ≡ registeredIn (take stateNumbers w) → st ≡ stateOf (take stateNumbers w) → l ≡ listOf registered ns
-    → ReadingEnsures v₀ before after (machine st l t) (engine.readingOutcome (reply .outcome) after) (machine (reply .state) l t′) → ReadingBack reply registered w given r w′ given′
+pub reading-made-of : {v₀ v : ℤ} {before after : List ℤ} {w ns : List ℕ} {t t′ : Tables} {st : State} {l : Queries} {reply : ReadingReply} {given r given′ : ℕ} {w′ : List ℕ} → v₀ ≡ v
+    → roomFor (length w) (length ns) ≡ true → st ≡ stateOf (take stateNumbers w) → l ≡ listOf (registeredIn (take stateNumbers w)) ns
+    → ReadingEnsures v₀ before after (machine st l t) (engine.readingOutcome (reply .outcome) after) (machine (reply .state) l t′) → ReadingBack reply w given r w′ given′
     → ReadingOnNumbers v before after given given′ (slices w ns t) (readingCodeOutcome r given′ after) (slices w′ ns t′)
-reading-made-of {v₀} {v} {before} {after} {w} {ns} {t} {t′} {st} {l} {reply} {registered} {given} {r} {given′} {w′} same room n e f p =
-    reading-made v before after w ns t t′ st l reply registered given r given′ w′ room n e f
+reading-made-of {v₀} {v} {before} {after} {w} {ns} {t} {t′} {st} {l} {reply} {given} {r} {given′} {w′} same room e f p =
+    reading-made v before after w ns t t′ st l reply given r given′ w′ room e f
     (subst (λ (x : ℤ). ReadingEnsures x before after (machine st l t) (engine.readingOutcome (reply .outcome) after) (machine (reply .state) l t′)) same p)
-
--- what totals came to is put at its four places
-pub data TotalsBack (before : List ℕ) (reply : TotalsReply) : ℕ → List ℕ → Type 0 where
-  untold : {r : ℕ} (refusal : Refusal) → reply ≡ totals.Refused refusal → r ≡ refusalNumber refusal → TotalsBack before reply r before
-  told : (n p a b : ℕ) → reply ≡ totals.Totals n p a b → TotalsBack before reply 0 (n ∷ p ∷ a ∷ b ∷ [])
 
 -- totals
 pub totals-made : (before after w ns : List ℕ) (t : Tables) (st : State) (l : Queries) (reply : TotalsReply) (r : ℕ) → roomFor (length w) (length ns) ≡ true
     → st ≡ stateOf (take stateNumbers w) → l ≡ listOf (registeredIn (take stateNumbers w)) ns
-    → Ensures Calls.totals (machine st l t) (engine.totalsOutcome reply) (machine st l t) → TotalsBack before reply r after
+    → Ensures Calls.totals (machine st l t) (engine.totalsOutcome reply) (machine st l t) → TotalsBack reply before r after
     → TotalsOnNumbers before after (slices w ns t) (totalsCodeOutcome r after)
-totals-made before after w ns t st l reply r room e f p (untold refusal u i) =
+totals-made before after w ns t st l reply r room e f p (untold refusal u) =
     let k = refusalNumber refusal in
     let q : Ensures Calls.totals (slicesMachine (slices w ns t)) (refused k) (slicesMachine (slices w ns t)) = rw (← given-is w ns t st l e f, ← ap engine.totalsOutcome u) p in
-    subst (λ (o : Outcome). TotalsOnNumbers before before (slices w ns t) o) (sym (ap (λ (j : ℕ). totalsCodeOutcome j before) i ∙ totals-refused k before (counted refusal)))
+    subst (λ (o : Outcome). TotalsOnNumbers before before (slices w ns t) o) (sym (totals-refused k before (counted refusal)))
     (record { onNumbers = refused-back (Ensures Calls.totals) (call-steady Calls.totals) w ns t t room k (slicesMachine (slices w ns t)) q refl; untold = λ j h. refl })
 totals-made before after w ns t st l reply r room e f p (told n c a b u) =
     let q : Ensures Calls.totals (slicesMachine (slices w ns t)) (accepted (n ∷ c ∷ a ∷ b ∷ []) []) (slicesMachine (slices w ns t)) = rw (← given-is w ns t st l e f, ← ap engine.totalsOutcome u) p in

@@ -1,5 +1,2 @@
-pub mod Signs
-pub mod Copies
-pub mod States
 pub mod Calling
 pub mod Agreement

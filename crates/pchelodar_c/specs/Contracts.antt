@@ -7,10 +7,10 @@ use mathlib.Core.Bool.{true, false}
 use mathlib.Core.List.{List, [], _∷_}
 use lib.IntN.{ℤ}
 use Rattle.window.specs.Calls.{Outcome, accepted, refused, totals}
-use Rattle.engine.specs.Tables.{KeptBeyond}
+use Rattle.board.specs.Tables.{KeptBeyond}
 use Rattle.engine.specs.Answers.{answersIn}
 use Rattle.engine.specs.Contracts.{Promise, Ensures, ReadingEnsures, placesAfter}
-use Rattle.pchelodar_c.specs.Written.{stateNumbers, listNumbers}
+use Rattle.encoding.specs.Written.{stateNumbers, listNumbers}
 use Rattle.pchelodar_c.specs.Slices.{Slices, numbersLong, slicesLong, slicesMachine}
 
 -- ---- document 01's numbers and values for what the calls return: 0 is an acceptance, any other number the refusal's

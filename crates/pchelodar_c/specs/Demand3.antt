@@ -6,20 +6,19 @@
 -- numbers of their types `Performed` has a run for every such list of calls and all answer tables. (That the functions
 -- return is read off their proofs; it is no law stated here.)
 -- Assumes nothing.
-use Prim.Native.Nat.{ℕ, _-_, _≤_}
+use Prim.Native.Nat.{ℕ, _-_}
 use mathlib.Core.Path.{_≡_}
-use mathlib.Core.Bool.{true}
 use mathlib.Core.List.{List, _++_}
 use lib.IntN.{ℤ}
 use lib.ListN.{length, take, replicate}
-use Rattle.window.specs.Calls.{Call, start, register, withdraw, reading, totals, Outcome, refused}
-use Rattle.window.specs.Model.{initial, totalsOf, Ran, run, reached}
+use Rattle.window.specs.Queries.{countLimit}
+use Rattle.window.specs.Calls.{Call, Outcome}
+use Rattle.window.specs.Model.{initial, Ran, run}
 use Rattle.registry.specs.Records.{recordLimit, unused}
-use Rattle.engine.specs.Machine.{HoldsLive, Represents}
-use Rattle.engine.specs.Contracts.{Promise, Ensures, StartEnsures}
+use Rattle.engine.specs.Contracts.{Promise, StartEnsures}
 use Rattle.engine.specs.Demand3 as below
-use Rattle.engine.specs.Demand3.{Performed}
-use Rattle.pchelodar_c.specs.Written.{listNumbers, numbersIn}
+use Rattle.engine.specs.Demand3.{PerformsOn, FromFresh, FromStartOn, BoardLiveOn, NeverDamagedOn}
+use Rattle.encoding.specs.Written.{listNumbers, numbersIn}
 use Rattle.pchelodar_c.specs.Slices.{Slices, slicesLong, slicesMachine}
 use Rattle.pchelodar_c.specs.Contracts.{codeOutcome, readingCodeOutcome, totalsCodeOutcome, OnNumbers, ReadingOnNumbers, TotalsOnNumbers}
 
@@ -58,50 +57,27 @@ pub record TotalsReturned (m : Slices) (o : Outcome) (m′ : Slices) : Type 0 wh
 
 -- the call c on m came to o and left m′
 abbrev pub Performs : Call → Slices → Outcome → Slices → Type 0
-Performs start m o m′ = Returned StartEnsures m o m′
-Performs (register number kind range slide) m o m′ = Returned (Ensures (register number kind range slide)) m o m′
-Performs (withdraw number) m o m′ = Returned (Ensures (withdraw number)) m o m′
-Performs (reading v places) m o m′ = ReadingReturned v places m o m′
-Performs totals m o m′ = TotalsReturned m o m′
-
--- a fresh engine: one just started on slices that pass check 1, whatever they held
-pub record Fresh (m : Slices) : Type 0 where
-  pub before : Slices
-  pub outcome : Outcome
-  pub long : slicesLong before ≡ true
-  pub started : Performs start before outcome m
+Performs c m o m′ = PerformsOn countLimit Returned ReadingReturned TotalsReturned c m o m′
 
 -- a run that came to the outcomes os and left m, against the model's run r of the same calls
 pub record AgreesWith (r : Ran) (os : List Outcome) (m : Slices) : Type 0 where
-  -- for each call: acceptance or refusal, numbers and answers; after the list: the queries, with all unused ones of the
-  -- 32 records 0, and n, P, M, N with their bound
-  pub agrees : below.AgreesWith r os (slicesMachine m)
+  pub agrees : below.AgreesWith slicesMachine slicesLong Performs r os m
   -- the queries as the caller finds them: the 160 numbers are those of the queries in order, and 0 after them
   pub listed : take listNumbers (m .queries) ≡ numbersIn (r .state .queries ++ replicate (recordLimit - length (r .state .queries)) unused)
-  -- n, P, M and N as a totals call would return them
-  pub totalled : (o : Outcome) (m′ : Slices) → Performs totals m o m′ → o ≡ (totalsOf (r .state)) .outcome
 
 -- the claim about the whole list
 abbrev pub Demand3 : Type 0
-Demand3 = (fresh : Slices) → Fresh fresh → (calls : List Call) (outcomes : List Outcome) (m : Slices)
-    → Performed Performs fresh calls outcomes m → AgreesWith (run initial calls) outcomes m
+Demand3 = FromFresh slicesMachine slicesLong Performs (λ (calls : List Call) (outcomes : List Outcome) (m : Slices). AgreesWith (run initial calls) outcomes m)
 
--- ---- beside it
-
--- what came from a start by these calls represents the state that the model comes to by them
+-- what stands beside it
 abbrev pub FromStart : Type 0
-FromStart = (fresh : Slices) → Fresh fresh → (calls : List Call) (outcomes : List Outcome) (m : Slices)
-    → Performed Performs fresh calls outcomes m → Represents (reached calls) (slicesMachine m)
+FromStart = FromStartOn slicesMachine slicesLong Performs
 
--- its tables hold what is live, and what stands of it
 abbrev pub BoardLive : Type 0
-BoardLive = (fresh : Slices) → Fresh fresh → (calls : List Call) (outcomes : List Outcome) (m : Slices)
-    → Performed Performs fresh calls outcomes m → HoldsLive (reached calls) (slicesMachine m .state) (m .tables)
+BoardLive = BoardLiveOn slicesMachine slicesLong Performs
 
--- no call on it is refused with 1 or 2
 abbrev pub NeverDamaged : Type 0
-NeverDamaged = (fresh : Slices) → Fresh fresh → (calls : List Call) (outcomes : List Outcome) (m : Slices)
-    → Performed Performs fresh calls outcomes m → (c : Call) (o : Outcome) (m′ : Slices) → Performs c m o m′ → (k : ℕ) → o ≡ refused k → 3 ≤ k
+NeverDamaged = NeverDamagedOn slicesMachine slicesLong Performs
 
 -- and a start that returned 0 left the 160 numbers of the query list 0
 abbrev pub StartZeroes : Type 0

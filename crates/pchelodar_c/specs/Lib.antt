@@ -1,5 +1,3 @@
-pub mod Signed
-pub mod Written
 pub mod Slices
 pub mod Contracts
 pub mod PutBack

@@ -3,12 +3,11 @@
 use Prim.Native.Nat.{ℕ}
 use mathlib.Core.Bool.{Bool, _&&_}
 use mathlib.Core.List.{List}
-use lib.Dec.{leb}
 use lib.ListN.{length, take}
-use Rattle.engine.specs.Tables as tables
-use Rattle.engine.specs.Tables.{Tables}
+use Rattle.board.specs.Tables as tables
+use Rattle.board.specs.Tables.{Tables}
 use Rattle.engine.specs.Machine.{Machine, machine}
-use Rattle.pchelodar_c.specs.Written.{stateNumbers, stateOf, registeredIn, listNumbers, listOf}
+use Rattle.encoding.specs.Written.{stateNumbers, stateOf, registeredIn, listOf, roomFor}
 
 -- the numbers of the state, those of the query list, and the six tables
 pub record Slices : Type 0 where
@@ -21,9 +20,6 @@ abbrev pub slices : List ℕ → List ℕ → Tables → Slices
 slices w ns t = record { state = w; queries = ns; tables = t }
 
 -- there are places for the numbers of a state and of a query list
-unfoldable pub roomFor : ℕ → ℕ → Bool
-roomFor state queries = leb stateNumbers state && leb listNumbers queries
-
 abbrev pub numbersLong : Slices → Bool
 numbersLong m = roomFor (length (m .state)) (length (m .queries))
 

@@ -1,42 +1,42 @@
 // The five calls by their names in C, on lent slices of numbers alone: no allocation, nothing global. Each returns 0
 // where it is accepted, and else the number of the refusal.
-use crate::list::LIST_NUMBERS;
-use crate::list::list_of;
-use crate::list::store_list;
-use crate::state::STATE_NUMBERS;
-use crate::state::also;
-use crate::state::load_numbers;
-use crate::state::registered_in;
-use crate::state::state_of;
-use crate::state::store_state;
+use encoding::list::load_list;
+use encoding::list::store_list;
+use encoding::room::room_for;
+use encoding::state::load_registered;
+use encoding::state::load_state;
+use encoding::state::store_state;
 use engine::calls;
 use engine::calls::Answered;
 use engine::calls::ReadingReply;
 use engine::calls::Reply;
 use engine::calls::TotalsReply;
-use window::query::Count;
+use window::count::Count;
+use window::count::wide;
 use window::refusal::Refusal;
 use window::refusal::Verdict;
 ghost use mathlib.Core.Path.{_≡_};
 ghost use Prim.Native.Nat.{_≤_};
 ghost use lib.ListN.{length};
+ghost use Rattle.window.specs.Refusals.{refusalNumber};
 ghost use Rattle.window.specs.Calls.{register, withdraw};
-ghost use Rattle.engine.specs.Tables.{tables};
+ghost use Rattle.board.specs.Tables.{tables};
 ghost use Rattle.engine.specs.Contracts.{StartEnsures, Ensures};
-ghost use Rattle.pchelodar_c.specs.Written.{stateNumbers, listNumbers};
-ghost use Rattle.pchelodar_c.specs.Slices.{slices, roomFor};
+ghost use Rattle.encoding.specs.Written.{stateNumbers, listNumbers};
+ghost use Rattle.pchelodar_c.specs.Slices.{slices};
 ghost use Rattle.pchelodar_c.specs.Contracts.{codeOutcome, readingCodeOutcome, totalsCodeOutcome, OnNumbers, ReadingOnNumbers, TotalsOnNumbers};
-ghost use Rattle.pchelodar_c.specs.PutBack.{PutBack, ReadingBack};
+ghost use Rattle.pchelodar_c.specs.PutBack.{PutBack, ReadingBack, TotalsBack};
 
-// Whether there are places for the numbers of a state and of a query list.
-fn room_for(state: usize, queries: usize) -> bool
-    ensures { λ r. ⌜ r ≡ roomFor state queries ⌝ }
+// The number of the refusal where there is no room for the numbers of a state and of a query list.
+fn no_room() -> u32
+    ensures { λ r. ⌜ r ≡ refusalNumber Refusal.TableTooShort ⌝ }
 {
-    also(STATE_NUMBERS <= state, LIST_NUMBERS <= queries)
+    let refusal = Refusal::TableTooShort;
+    refusal.number()
 }
 
 // What start, register or withdraw came to is put back, where it was accepted.
-fn put_back(state: &mut [u64], queries: &mut [u32], reply: Reply) -> u32
+fn put_back(reply: Reply, state: &mut [u64], queries: &mut [u32]) -> u32
     requires { ⌜ (stateNumbers ≤ length (now state)) × (listNumbers ≤ length (now queries)) ⌝ }
     ensures { λ r. ⌜ PutBack reply (now (state .entry)) (now (queries .entry)) r (now (state .exit)) (now (queries .exit)) ⌝ }
 {
@@ -46,29 +46,38 @@ fn put_back(state: &mut [u64], queries: &mut [u32], reply: Reply) -> u32
         Verdict::Passed => {
             let list = reply.queries;
             let records = list.records;
-            store_state(state, reply.state, list.count);
             store_list(queries, records);
+            store_state(state, reply.state, list.count);
             0
         }
     }
 }
 
 // So is what a reading came to: the state, and how many answers there are.
-fn put_reading_back(
-    state: &mut [u64],
-    registered: usize,
-    answered: &mut usize,
-    reply: ReadingReply,
-) -> u32
+fn put_reading_back(reply: ReadingReply, state: &mut [u64], answered: &mut usize) -> u32
     requires { ⌜ stateNumbers ≤ length (now state) ⌝ }
-    ensures { λ r. ⌜ ReadingBack reply registered (now (state .entry)) (now (answered .entry)) r (now (state .exit)) (now (answered .exit)) ⌝ }
+    ensures { λ r. ⌜ ReadingBack reply (now (state .entry)) (now (answered .entry)) r (now (state .exit)) (now (answered .exit)) ⌝ }
 {
     let outcome = reply.outcome;
     match outcome {
         Answered::Refused(refusal) => refusal.number(),
         Answered::Answers(given) => {
+            let registered = load_registered(state);
             store_state(state, reply.state, registered);
             *answered = given;
+            0
+        }
+    }
+}
+
+// So is what a call of totals came to: n, P, M and N.
+fn put_totals(reply: TotalsReply, totals: &mut [u64; 4]) -> u32
+    ensures { λ r. ⌜ TotalsBack reply (now (totals .entry)) r (now (totals .exit)) ⌝ }
+{
+    match reply {
+        TotalsReply::Refused(refusal) => refusal.number(),
+        TotalsReply::Totals(n, closed, max_comparisons, min_comparisons) => {
+            *totals = [wide(n), wide(closed), max_comparisons, min_comparisons];
             0
         }
     }
@@ -93,21 +102,22 @@ pub extern "C" fn pchelodar_start(
         (slices (now (state .exit)) (now (queries .exit)) (tables (now (starts .exit)) (now (sums .exit)) (now («max_starts» .exit)) (now («max_values» .exit)) (now («min_starts» .exit)) (now («min_values» .exit)))) ⌝ }
 {
     if !room_for(state.len(), queries.len()) {
-        let refusal = Refusal::TableTooShort;
-        return refusal.number();
+        return no_room();
     }
-    let w = load_numbers(state);
-    let reply = calls::start(
-        state_of(w),
-        list_of(queries, registered_in(w)),
-        starts,
-        sums,
-        max_starts,
-        max_values,
-        min_starts,
-        min_values,
-    );
-    put_back(state, queries, reply)
+    put_back(
+        calls::start(
+            load_state(state),
+            load_list(queries, state),
+            starts,
+            sums,
+            max_starts,
+            max_values,
+            min_starts,
+            min_values,
+        ),
+        state,
+        queries,
+    )
 }
 
 // Register: the query joins the list with g = n. Refused with 1 to 8.
@@ -132,25 +142,26 @@ pub extern "C" fn pchelodar_register(
         (slices (now (state .exit)) (now (queries .exit)) (tables (now (starts .exit)) (now (sums .exit)) (now («max_starts» .exit)) (now («max_values» .exit)) (now («min_starts» .exit)) (now («min_values» .exit)))) ⌝ }
 {
     if !room_for(state.len(), queries.len()) {
-        let refusal = Refusal::TableTooShort;
-        return refusal.number();
+        return no_room();
     }
-    let w = load_numbers(state);
-    let reply = calls::register(
-        state_of(w),
-        list_of(queries, registered_in(w)),
-        starts,
-        sums,
-        max_starts,
-        max_values,
-        min_starts,
-        min_values,
-        number,
-        kind,
-        range,
-        slide,
-    );
-    put_back(state, queries, reply)
+    put_back(
+        calls::register(
+            load_state(state),
+            load_list(queries, state),
+            starts,
+            sums,
+            max_starts,
+            max_values,
+            min_starts,
+            min_values,
+            number,
+            kind,
+            range,
+            slide,
+        ),
+        state,
+        queries,
+    )
 }
 
 // Withdraw: the query leaves, the others keep their order. Refused with 1, 2 and 9.
@@ -172,22 +183,23 @@ pub extern "C" fn pchelodar_withdraw(
         (slices (now (state .exit)) (now (queries .exit)) (tables (now (starts .entry)) (now (sums .entry)) (now («max_starts» .entry)) (now («max_values» .entry)) (now («min_starts» .entry)) (now («min_values» .entry)))) ⌝ }
 {
     if !room_for(state.len(), queries.len()) {
-        let refusal = Refusal::TableTooShort;
-        return refusal.number();
+        return no_room();
     }
-    let w = load_numbers(state);
-    let reply = calls::withdraw(
-        state_of(w),
-        list_of(queries, registered_in(w)),
-        starts,
-        sums,
-        max_starts,
-        max_values,
-        min_starts,
-        min_values,
-        number,
-    );
-    put_back(state, queries, reply)
+    put_back(
+        calls::withdraw(
+            load_state(state),
+            load_list(queries, state),
+            starts,
+            sums,
+            max_starts,
+            max_values,
+            min_starts,
+            min_values,
+            number,
+        ),
+        state,
+        queries,
+    )
 }
 
 // Reading: it joins the readings, and the due queries are answered, four places each, from the first place on. Refused
@@ -212,24 +224,24 @@ pub extern "C" fn pchelodar_reading(
         (slices (now (state .exit)) (now (queries .entry)) (tables (now (starts .exit)) (now (sums .exit)) (now («max_starts» .exit)) (now («max_values» .exit)) (now («min_starts» .exit)) (now («min_values» .exit)))) ⌝ }
 {
     if !room_for(state.len(), queries.len()) {
-        let refusal = Refusal::TableTooShort;
-        return refusal.number();
+        return no_room();
     }
-    let w = load_numbers(state);
-    let registered = registered_in(w);
-    let reply = calls::reading(
-        state_of(w),
-        list_of(queries, registered),
-        starts,
-        sums,
-        max_starts,
-        max_values,
-        min_starts,
-        min_values,
-        answers,
-        value,
-    );
-    put_reading_back(state, registered, answered, reply)
+    put_reading_back(
+        calls::reading(
+            load_state(state),
+            load_list(queries, state),
+            starts,
+            sums,
+            max_starts,
+            max_values,
+            min_starts,
+            min_values,
+            answers,
+            value,
+        ),
+        state,
+        answered,
+    )
 }
 
 // Totals: n, P, M and N are written, changing nothing else. Refused with 1 and 2.
@@ -250,25 +262,19 @@ pub extern "C" fn pchelodar_totals(
         (totalsCodeOutcome r (now (totals .exit))) ⌝ }
 {
     if !room_for(state.len(), queries.len()) {
-        let refusal = Refusal::TableTooShort;
-        return refusal.number();
+        return no_room();
     }
-    let w = load_numbers(state);
-    let reply = calls::totals(
-        state_of(w),
-        list_of(queries, registered_in(w)),
-        starts,
-        sums,
-        max_starts,
-        max_values,
-        min_starts,
-        min_values,
-    );
-    match reply {
-        TotalsReply::Refused(refusal) => refusal.number(),
-        TotalsReply::Totals(n, closed, max_comparisons, min_comparisons) => {
-            *totals = [n as u64, closed as u64, max_comparisons, min_comparisons];
-            0
-        }
-    }
+    put_totals(
+        calls::totals(
+            load_state(state),
+            load_list(queries, state),
+            starts,
+            sums,
+            max_starts,
+            max_values,
+            min_starts,
+            min_values,
+        ),
+        totals,
+    )
 }

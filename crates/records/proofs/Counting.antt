@@ -13,8 +13,12 @@ below-left i m n l = omega (arith, l)
 pub below-right : (i m n : ℕ) → i < min m n → i < n
 below-right i m n l = omega (arith, l)
 
--- the offset of record i, of 20 bytes each, is a word
-pub offset-fits : (i n : ℕ) → i < n → n * 20 < 2 ^ 63 → i * 20 < 2 ^ 64
+-- the bytes of a record: five numbers of 32 bits. Named here alone
+abbrev pub recordSize : ℕ
+recordSize = 20
+
+-- the offset of record i is a word
+pub offset-fits : (i n : ℕ) → i < n → n * recordSize < 2 ^ 63 → i * recordSize < 2 ^ 64
 offset-fits i n l r = omega (arith, l, r)
 
 -- the count after record i is a word

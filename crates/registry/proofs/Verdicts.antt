@@ -1,10 +1,9 @@
 -- The laws of the checks of a call: the verdict of each run of tests that leads to it.
 -- Assumes nothing.
-use mathlib.Core.Path.{_≡_, refl, sym, _∙_}
-use mathlib.Core.Bool.{Bool, true, false, cond}
-use mathlib.Core.List.{List, [], _∷_, _++_}
+use mathlib.Core.Path.{_≡_, sym, _∙_}
+use mathlib.Core.Bool.{true, false}
+use mathlib.Core.List.{List}
 use Prim.Native.Nat.{ℕ, _+_, _*_, _≤_, _<_}
-use native.Mathlib.Omega.{arith}
 use lib.ListN.{length}
 use borrow.Author.Tests.{le-leb, lt-leb, lt-ltb, le-ltb}
 use Rattle.window.specs.declared.query.Query.{Query}
@@ -12,28 +11,9 @@ use Rattle.window.specs.declared.refusal.Refusal.{Refusal}
 use Rattle.window.specs.declared.refusal.Refusal.the-variants.{NumberTaken, ListFull, NotRegistered, CountExhausted, AnswersTooShort}
 use Rattle.window.specs.declared.refusal.Verdict.{Verdict}
 use Rattle.window.specs.declared.refusal.Verdict.the-variants.{Passed, Refused}
-use Rattle.window.specs.Lists.{any}
 use Rattle.window.specs.Queries.{queryLimit, countLimit}
-use Rattle.window.specs.Refusals.{Check, applying, firstRefusal, isRegistered, dueAt, answerPlaces, fieldChecks, listChecks, registerChecks, withdrawChecks, readingChecks}
-use Rattle.window.proofs.Lists.{not-left, not-right}
-use Rattle.window.proofs.Refusals.{passed-any}
-
--- ---- two runs of checks, one after the other
-
--- where the first passes, the second decides
-passed-then : (cs ds : List Check) → any applying cs ≡ false → firstRefusal (cs ++ ds) ≡ firstRefusal ds
-passed-then [] ds e = refl
-passed-then (c ∷ cs) ds e = rw (not-left (c .applies) (any applying cs) e) (passed-then cs ds (not-right (c .applies) (any applying cs) e))
-
--- where the first refuses, that decides
-refused-then : (cs ds : List Check) (r : Refusal) → firstRefusal cs ≡ Refused r → firstRefusal (cs ++ ds) ≡ Refused r
-refused-then [] ds r e = let z : _≡_ {A = ℕ} 0 1 = cc in absurd (omega arith)
-refused-then (c ∷ cs) ds r e = go (c .applies) e (refused-then cs ds r)
-  where
-    go : (b : Bool) → cond b (Refused (c .refusal)) (firstRefusal cs) ≡ Refused r → (firstRefusal cs ≡ Refused r → firstRefusal (cs ++ ds) ≡ Refused r)
-        → cond b (Refused (c .refusal)) (firstRefusal (cs ++ ds)) ≡ Refused r
-    go true k ih = k
-    go false k ih = ih k
+use Rattle.window.specs.Refusals.{firstRefusal, isRegistered, dueAt, answerPlaces, fieldChecks, listChecks, registerChecks, withdrawChecks, countChecks, placesChecks, readingChecks, readingChecksAt}
+use Rattle.window.proofs.Refusals.{passed-any, passed-then, refused-then}
 
 -- ---- a registration
 
@@ -77,18 +57,34 @@ withdraw-missing qs number t = rw t
 
 -- ---- a reading
 
+-- the count is exhausted
+pub count-exhausted : (limit n : ℕ) → limit ≤ n → Refused CountExhausted ≡ firstRefusal (countChecks limit n)
+unfolding countChecks
+count-exhausted limit n l = rw (le-leb limit n l)
+
+-- it is not
+pub count-left : (limit n : ℕ) → n < limit → Passed ≡ firstRefusal (countChecks limit n)
+unfolding countChecks
+count-left limit n l = rw (lt-leb limit n l)
+
 module _ (n : ℕ) (qs : List Query) (places : ℕ) where
-  -- the count is exhausted
-  pub reading-exhausted : countLimit ≤ n → Refused CountExhausted ≡ firstRefusal (readingChecks n qs places)
-  unfolding readingChecks
-  reading-exhausted l = rw (le-leb countLimit n l)
-
   -- the answers have no room
-  pub reading-short : n < countLimit → places < answerPlaces * length (dueAt (n + 1) qs) → Refused AnswersTooShort ≡ firstRefusal (readingChecks n qs places)
-  unfolding readingChecks
-  reading-short l k = rw (lt-leb countLimit n l, lt-ltb places (answerPlaces * length (dueAt (n + 1) qs)) k)
+  pub places-short : places < answerPlaces * length (dueAt (n + 1) qs) → Refused AnswersTooShort ≡ firstRefusal (placesChecks n qs places)
+  unfolding placesChecks
+  places-short k = rw (lt-ltb places (answerPlaces * length (dueAt (n + 1) qs)) k)
 
-  -- neither
-  pub reading-counts : n < countLimit → answerPlaces * length (dueAt (n + 1) qs) ≤ places → Passed ≡ firstRefusal (readingChecks n qs places)
-  unfolding readingChecks
-  reading-counts l k = rw (lt-leb countLimit n l, le-ltb places (answerPlaces * length (dueAt (n + 1) qs)) k)
+  -- they have
+  pub places-enough : answerPlaces * length (dueAt (n + 1) qs) ≤ places → Passed ≡ firstRefusal (placesChecks n qs places)
+  unfolding placesChecks
+  places-enough k = rw (le-ltb places (answerPlaces * length (dueAt (n + 1) qs)) k)
+
+module _ (n : ℕ) (qs : List Query) (places : ℕ) (v : Verdict) (e : v ≡ firstRefusal (countChecks countLimit n)) where
+  -- the count is refused
+  pub reading-uncounted : (r : Refusal) → v ≡ Refused r → Refused r ≡ firstRefusal (readingChecks n qs places)
+  unfolding readingChecksAt
+  reading-uncounted r p = sym (refused-then (countChecks countLimit n) (placesChecks n qs places) r (sym e ∙ p))
+
+  -- where it passes, the places decide
+  pub reading-counted : v ≡ Passed → firstRefusal (placesChecks n qs places) ≡ firstRefusal (readingChecks n qs places)
+  unfolding readingChecksAt
+  reading-counted p = sym (passed-then (countChecks countLimit n) (placesChecks n qs places) (passed-any (countChecks countLimit n) (sym e ∙ p)))

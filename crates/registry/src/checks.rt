@@ -2,7 +2,8 @@
 // each refuses").
 use crate::queries::Queries;
 use crate::queries::RECORDS;
-use window::query::Count;
+use window::count::COUNT_LIMIT;
+use window::count::Count;
 use window::query::Query;
 use window::refusal::Refusal;
 use window::refusal::Verdict;
@@ -13,12 +14,9 @@ ghost use Prim.Native.Nat.{_+_, _*_, _<_, _≤_};
 ghost use lib.Dec.{ltb};
 ghost use lib.ListN.{take, drop};
 ghost use Rattle.window.specs.Lists.{Each};
-ghost use Rattle.window.specs.Queries.{Limits};
-ghost use Rattle.window.specs.Refusals.{brokenRecord, damaged, firstRefusal, registerChecks, withdrawChecks, readingChecks};
+ghost use Rattle.window.specs.Queries.{Limits, countLimit};
+ghost use Rattle.window.specs.Refusals.{brokenRecord, damaged, firstRefusal, registerChecks, withdrawChecks, countChecks, placesChecks, readingChecks};
 ghost use Rattle.registry.specs.Records.{recordLimit, used, numbersOf, occurs, repeats};
-
-// The greatest count of readings.
-pub const COUNT_LIMIT: Count = 4_294_967_295;
 
 // The places of an answer in the answer table.
 pub const ANSWER_PLACES: usize = 4;
@@ -84,6 +82,16 @@ pub(crate) fn repeats(numbers: [u32; 32], end: usize) -> bool
     found
 }
 
+// Check 10, with n readings taken: the next one can be counted.
+pub fn check_count(n: Count) -> Verdict
+    ensures { λ r. ⌜ r ≡ firstRefusal (countChecks countLimit n) ⌝ }
+{
+    if COUNT_LIMIT <= n {
+        return Verdict::Refused(Refusal::CountExhausted);
+    }
+    Verdict::Passed
+}
+
 impl Queries {
     // The numbers of the records, in a plain array.
     pub(crate) fn numbers(self) -> [u32; 32]
@@ -138,15 +146,12 @@ impl Queries {
         Verdict::Refused(Refusal::NotRegistered)
     }
 
-    // Checks 10 and 11, with n readings taken and an answer table of this many places. Where there are places for all
-    // queries, it is not asked how many are due.
-    pub fn check_reading(self, n: Count, places: usize) -> Verdict
-        requires { ⌜ (self .count ≤ recordLimit) × Each Limits (used self) ⌝ }
-        ensures { λ r. ⌜ r ≡ firstRefusal (readingChecks n (used self) places) ⌝ }
+    // Check 11, with n readings taken and an answer table of this many places. Where there are places for all queries,
+    // it is not asked how many are due.
+    pub fn check_places(self, n: Count, places: usize) -> Verdict
+        requires { ⌜ (self .count ≤ recordLimit) × Each Limits (used self) × (n < countLimit) ⌝ }
+        ensures { λ r. ⌜ r ≡ firstRefusal (placesChecks n (used self) places) ⌝ }
     {
-        if COUNT_LIMIT <= n {
-            return Verdict::Refused(Refusal::CountExhausted);
-        }
         if ANSWER_PLACES * self.count <= places {
             return Verdict::Passed;
         }
@@ -154,5 +159,19 @@ impl Queries {
             return Verdict::Refused(Refusal::AnswersTooShort);
         }
         Verdict::Passed
+    }
+
+    // Checks 10 and 11.
+    pub fn check_reading(self, n: Count, places: usize) -> Verdict
+        requires { ⌜ (self .count ≤ recordLimit) × Each Limits (used self) ⌝ }
+        ensures { λ r. ⌜ r ≡ firstRefusal (readingChecks n (used self) places) ⌝ }
+    {
+        match check_count(n) {
+            Verdict::Refused(refusal) => {
+                return Verdict::Refused(refusal);
+            }
+            Verdict::Passed => {}
+        }
+        self.check_places(n, places)
     }
 }

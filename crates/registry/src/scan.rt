@@ -4,7 +4,7 @@ use crate::checks::broken;
 use crate::checks::repeats;
 use crate::queries::Queries;
 use crate::queries::RECORDS;
-use window::query::Count;
+use window::count::Count;
 use window::query::Query;
 ghost use mathlib.Core.Path.{_≡_};
 ghost use mathlib.Core.Bool.{true, false, _||_};

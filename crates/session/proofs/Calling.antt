@@ -2,7 +2,7 @@
 -- Assumes nothing.
 use Prim.Native.Nat.{ℕ, zero, suc, _*_}
 use native.Mathlib.Omega.{arith}
-use mathlib.Core.Path.{_≡_, refl, sym, ap, _∙_}
+use mathlib.Core.Path.{_≡_, refl, sym, ap, subst, _∙_}
 use mathlib.Core.List.{List}
 use lib.IntN.{ℤ}
 use lib.ListN.{length, drop, length-append}
@@ -17,16 +17,21 @@ use Rattle.engine.specs.declared.calls.Answered.{Answered}
 use Rattle.engine.specs.declared.calls.Answered.the-variants as answered
 use Rattle.engine.specs.declared.calls.Reply.{Reply}
 use Rattle.engine.specs.Answers.{places, answersIn}
-use Rattle.engine.specs.Tables.{Tables}
+use Rattle.board.specs.Tables.{Tables}
 use Rattle.engine.specs.Machine.{Machine, machine}
 use Rattle.engine.specs.Outcomes.{verdictOutcome, readingOutcome}
 use Rattle.engine.specs.Contracts.{Ensures, placesAfter, ReadingEnsures}
 use Rattle.engine.proofs.Places.{places-length}
-use Rattle.engine.proofs.Keeping.{tables-same}
+use Rattle.board.proofs.Lending.{tables-same}
 use Rattle.parse.specs.declared.line.Line.{Line}
 use Rattle.session.specs.Meaning.{answerTable, lineStep}
 use Rattle.session.specs.declared.call.Called.{Called}
 use Rattle.session.specs.Contracts.{noAnswers, withoutAnswers, Within, CallEnsures}
+
+-- what a call came to, as its parts are put together
+pub called-as : {line : Line} {m : Machine} {t : List ℤ} {after : Tables} {c d : Called} → c ≡ d → CallEnsures line m (d .outcome) t (machine (d .state) (d .queries) after)
+    → CallEnsures line m (c .outcome) t (machine (c .state) (c .queries) after)
+called-as {line} {m} {t} {after} is p = subst (λ (x : Called). CallEnsures line m (x .outcome) t (machine (x .state) (x .queries) after)) (sym is) p
 
 -- ---- registrations and withdrawals
 

@@ -9,12 +9,12 @@ use lib.Dec.{ltb}
 use borrow.Author.Tests.{ltb-true, ltb-false}
 use lib.ListN.{length, take, length-append}
 use lib.Seq.{slice, slice-empty, take-all}
-use Rattle.engine.specs.Tables.{Tables, tablesLong}
+use Rattle.board.specs.Tables.{Tables, tablesLong}
+use Rattle.parse.proofs.Slices.{slice-then}
 use Rattle.session.specs.Meaning.{lineRoom}
 use Rattle.session.specs.Stream.{Running, opened, fedAll}
 use Rattle.session.specs.Contracts.{Held, Shown, Says, lineLimit, OpenEnsures, FeedEnsures, finishRoom, FinishEnsures}
 use Rattle.session.specs.Whole.{Fed, none, more, Reached, ReachedLimit, Carries, CarriesLimit, RanAll}
-use Rattle.session.proofs.Slices.{slice-then}
 use Rattle.session.proofs.Streaming.{lines-few}
 use Rattle.session.proofs.Whole.{reached-shown}
 

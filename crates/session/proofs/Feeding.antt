@@ -1,92 +1,88 @@
 -- The bytes of a chunk, taken a line at a time, are the session's bytes one after the other.
 -- Assumes nothing.
-use Prim.Native.Nat.{ℕ, zero, suc, _+_, _≤_, _<_}
+use Prim.Native.Nat.{ℕ, suc, _+_, _≤_, _<_}
 use native.Mathlib.Numerals.{add-one}
 use native.Mathlib.Omega.{arith}
-use mathlib.Core.Path.{_≡_, refl, sym, ap, _∙_}
+use mathlib.Core.Path.{_≡_, refl, sym, ap, subst, _∙_}
 use mathlib.Core.Bool.{Bool, true, false, cond}
 use mathlib.Core.List.{List, [], _∷_, _++_, append-assoc, append-nil}
-use lib.Dec.{eqb, leb}
-use borrow.Author.Tests.{leb-true, leb-false, eqb-true}
+use lib.Dec.{eqb}
+use borrow.Author.Tests.{eqb-true}
 use lib.IntN.{ℤ}
 use lib.ListN.{length, getD, take, drop, length-drop}
-use lib.Seq.{slice, slice-empty, take-all, take-suc, length-take-le, drop-append-le, getD-drop}
+use lib.Seq.{slice, slice-empty, take-suc, length-take-le, drop-append-le, getD-drop}
+use Rattle.window.specs.Calls.{Outcome}
 use Rattle.window.specs.Model as model
 use Rattle.window.specs.Model.{count}
-use Rattle.registry.specs.declared.queries.Queries.{Queries}
-use Rattle.engine.specs.declared.calls.Answered.{Answered}
-use Rattle.engine.specs.declared.state.State.{State}
-use Rattle.engine.specs.Tables.{Tables}
+use Rattle.board.specs.Tables.{Tables}
 use Rattle.engine.specs.Machine.{machine, Represents}
 use Rattle.engine.specs.Outcomes.{readingOutcome}
-use Rattle.engine.proofs.Keeping.{tables-same, tables-then}
+use Rattle.board.proofs.Lending.{tables-same, tables-then}
 use Rattle.parse.specs.declared.line.Line.{Line}
+use Rattle.parse.specs.declared.kept.Kept.{Kept}
 use Rattle.parse.specs.Fields.{until}
-use Rattle.parse.specs.Lines.{lineLength, parsed}
-use Rattle.parse.proofs.Reading.{too-long}
+use Rattle.parse.specs.Lines.{parsed}
+use Rattle.parse.specs.Kept.{keptLength, keptLine}
+use Rattle.parse.proofs.Slices.{slice-is, slice-then}
+use Rattle.parse.proofs.Keeping.{parsed-kept, take-joined}
 use Rattle.print.specs.Put.{Put}
 use Rattle.print.proofs.Putting.{put-none, put-then, put-as, puts-none, puts-then}
-use Rattle.session.specs.declared.kept.Kept.{Kept}
+use Rattle.session.specs.declared.call.Called.{Called}
 use Rattle.session.specs.declared.stream.Session.{Session}
+use Rattle.session.specs.declared.stream.Taken.{Taken}
+use Rattle.session.specs.declared.stream.Ended.{Ended}
 use Rattle.session.specs.Meaning.{answerTable, lineStep, printed, lineRoom}
-use Rattle.session.specs.Stream.{Running, Streamed, lineEnded, lineExtended, fed, following, fedAll, keptLength, keptLine}
-use Rattle.session.specs.Contracts.{CallEnsures, Held, held, keeping, Shown, Says, lineLimit, LineEnsures, Streams, NothingDone}
-use Rattle.session.proofs.Slices.{slice-is, slice-then}
+use Rattle.session.specs.Stream.{Running, Streamed, lineEnded, lineExtended, fed, following, fedAll}
+use Rattle.session.specs.Contracts.{CallEnsures, Held, held, keeping, NewLine, LongerEnsures, Shown, Says, lineLimit, LineEnsures, Streams, RestEnsures, NothingDone}
 use Rattle.session.proofs.Streaming.{fed-append}
-
--- ---- the first 65 bytes of a line tell what it asks
-
-parsed-kept : (l : List ℕ) → parsed (take keptLength l) ≡ parsed l
-parsed-kept l = go (leb (length l) lineLength) refl
-  where
-    go : (t : Bool) → leb (length l) lineLength ≡ t → parsed (take keptLength l) ≡ parsed l
-    go true e = ap parsed (take-all keptLength l (omega (arith, leb-true (length l) lineLength e)))
-    go false e =
-        let long : lineLength < length l = leb-false (length l) lineLength e in
-        sym (too-long (take keptLength l) (omega (arith, long, length-take-le keptLength l (omega arith)))) ∙ too-long l long
-
--- bytes that join a line of which the first m are kept
-take-joined : (m : ℕ) (l xs : List ℕ) → take m (take m l ++ xs) ≡ take m (l ++ xs)
-take-joined zero l xs = refl
-take-joined (suc m) [] xs = refl
-take-joined (suc m) (x ∷ l) xs = ap (λ (t : List ℕ). x ∷ t) (take-joined m l xs)
 
 -- ---- a line ends
 
-module _ (s : Session) (t t′ : Tables) (line : Line) (o : Answered) (places : List ℤ) (st : State) (queries : Queries) (none : Kept) (n lines : ℕ) (old : List ℕ) (at : ℕ) (new : List ℕ) (next : ℕ)
-    (asks : line ≡ parsed (keptLine (s .kept))) (called : CallEnsures line (machine (s .state) (s .queries) t) o places (machine st queries t′)) where
+module _ (s s′ : Session) (t t′ : Tables) (line : Line) (called : Called) (places : List ℤ) (n lines : ℕ) (old : List ℕ) (at : ℕ) (new : List ℕ) (next next′ : ℕ)
+    (asks : line ≡ parsed (keptLine (s .kept))) (calls : CallEnsures line (machine (s .state) (s .queries) t) (called .outcome) places (machine (called .state) (called .queries) t′))
+    (after : NewLine (called .state) (called .queries) lines s′) where
   -- what is kept of the line asks what the line does
   asked : (r : Running) → Shown r (held s t) → line ≡ parsed (r .line)
   asked r sh = asks ∙ ap parsed (sh .line) ∙ parsed-kept (r .line)
 
-  pub line-ended : lines ≡ s .lines + 1 → n ≡ st .count → none .length ≡ 0
-      → (Put old at (printed n lines (readingOutcome o places)) new next) × (next ≤ at + lineRoom)
-      → LineEnsures (held s t) old at (held (record { state = st; queries = queries; lines = lines; kept = none }) t′) new next
-  line-ended el en ek (text, room) =
+  -- what is held after it
+  abbrev h′ : Held
+  h′ = held (record { state = called .state; queries = called .queries; lines = lines; kept = s′ .kept }) t′
+
+  ended-so : lines ≡ s .lines + 1 → n ≡ called .state .count → (Put old at (printed n lines (readingOutcome (called .outcome) places)) new next) × (next ≤ at + lineRoom)
+      → LineEnsures (held s t) old at h′ new next
+  ended-so el en (text, room) =
       record {
         says = says;
-        unchanged = λ r sh k e. called .unchanged k (called .agrees (r .position .state) (sh .represents) ∙ ap (λ (x : Line). (lineStep (r .position .state) x) .outcome) (asked r sh) ∙ e);
+        unchanged = λ r sh k e. calls .unchanged k (calls .agrees (r .position .state) (sh .represents) ∙ ap (λ (x : Line). (lineStep (r .position .state) x) .outcome) (asked r sh) ∙ e);
         counts = el;
         room = room;
-        puts = record { bytes = printed n lines (readingOutcome o places); put = text };
-        kept = called .kept;
+        puts = record { bytes = printed n lines (readingOutcome (called .outcome) places); put = text };
+        kept = calls .kept;
       }
     where
-      says : (r : Running) → Shown r (held s t)
-          → Says (lineEnded r) (held (record { state = st; queries = queries; lines = lines; kept = none }) t′) old at new next
+      o : Outcome
+      o = readingOutcome (called .outcome) places
+
+      says : (r : Running) → Shown r (held s t) → Says (lineEnded r) h′ old at new next
       says r sh =
           let before : model.State = r .position .state in
-          let rep : Represents ((lineStep before line) .state) (machine st queries t′) = called .represents before (sh .represents) in
+          let rep : Represents ((lineStep before line) .state) (machine (called .state) (called .queries) t′) = calls .represents before (sh .represents) in
           let same : line ≡ parsed (r .line) = asked r sh in
-          let is-n : n ≡ count ((lineStep before line) .state) = en ∙ rep .state .count in
           let is-line : lines ≡ r .position .lines + 1 = el ∙ ap (λ (k : ℕ). k + 1) (sh .lines) in
-          let is-outcome : readingOutcome o places ≡ (lineStep before line) .outcome = called .agrees before (sh .represents) in
+          let is-outcome : o ≡ (lineStep before line) .outcome = calls .agrees before (sh .represents) in
           record {
-            shown = record { represents = rw (sym same) rep; lines = is-line; line = ap (λ (k : ℕ). take k (none .bytes)) ek };
-            text = rw (sym same) (put-as (ap (λ (k : ℕ). printed k lines (readingOutcome o places)) is-n
-                ∙ ap (λ (k : ℕ). printed (count ((lineStep before line) .state)) k (readingOutcome o places)) is-line
+            shown = record { represents = rw (sym same) rep; lines = is-line; line = ap (λ (k : ℕ). take k (s′ .kept .bytes)) (after .none) };
+            text = rw (sym same) (put-as (ap (λ (k : ℕ). printed k lines o) (en ∙ rep .state .count)
+                ∙ ap (λ (k : ℕ). printed (count ((lineStep before line) .state)) k o) is-line
                 ∙ ap (printed (count ((lineStep before line) .state)) (r .position .lines + 1)) is-outcome) text);
           }
+
+  pub line-ended : lines ≡ s .lines + 1 → n ≡ called .state .count → next′ ≡ next → (Put old at (printed n lines (readingOutcome (called .outcome) places)) new next) × (next ≤ at + lineRoom)
+      → LineEnsures (held s t) old at (held s′ t′) new next′
+  line-ended el en ea put =
+      subst (λ (k : ℕ). LineEnsures (held s t) old at (held s′ t′) new k) (sym ea)
+      (subst (λ (x : Session). LineEnsures (held s t) old at (held x t′) new next) (sym (after .is)) (ended-so el en put))
 
 -- ---- bytes without an end of line
 
@@ -183,6 +179,44 @@ module _ (chunk : List ℕ) (from to : ℕ) (is : to ≡ from + until 10 (drop f
 
         says : (r : Running) → Shown r (held s t) → Says (fedAll r (slice from (to + 1) chunk)) h old at new next
         says r sh = rw (ends r) (p .says ((lineExtended r bytes) .running) (longer r sh))
+
+-- ---- the rest of a line
+
+module _ (chunk : List ℕ) (taken r : Taken) (e : Ended) (to : ℕ) (t : Tables) (end : (to ≤ length chunk) × (to ≡ taken .to + until 10 (drop (taken .to) chunk)))
+    (long : LongerEnsures taken (slice (taken .to) to chunk) e) (byte : taken .to < length chunk) (few : taken .session .lines < lineLimit) where
+  -- it has as many lines before it
+  same-lines : e .session .lines ≡ taken .session .lines
+  same-lines = ap (λ (s : Session). s .lines) (long .same)
+
+  -- the chunk ends before the line does
+  pub rest-kept : (old : List ℕ) → length chunk ≤ to → r ≡ record { session = e .session; to = to; at = e .at }
+      → RestEnsures chunk (taken .to) (held (taken .session) t) old (taken .at) (held (r .session) t) (r .to) old (r .at)
+  rest-kept old beyond is =
+      subst (λ (x : Taken). RestEnsures chunk (taken .to) (held (taken .session) t) old (taken .at) (held (x .session) t) (x .to) old (x .at)) (sym is)
+      (subst (λ (n : ℕ). RestEnsures chunk (taken .to) (held (taken .session) t) old (taken .at) (held (e .session) t) to old n) (sym (long .at))
+      (record {
+        streams = line-kept chunk (taken .to) to (end .1) (taken .session) (e .session) t (long .kept) (long .same) (long .line) old (taken .at);
+        onward = omega (arith, beyond, byte);
+        inside = end .0;
+        room = omega arith;
+        few = omega (arith, few, same-lines);
+      }))
+
+  -- the line ends in the chunk
+  pub rest-taken : {t′ : Tables} {e′ : Ended} {old new : List ℕ} → to < length chunk → LineEnsures (held (e .session) t) old (e .at) (held (e′ .session) t′) new (e′ .at)
+      → r ≡ record { session = e′ .session; to = to + 1; at = e′ .at }
+      → RestEnsures chunk (taken .to) (held (taken .session) t) old (taken .at) (held (r .session) t′) (r .to) new (r .at)
+  rest-taken {t′} {e′} {old} {new} inside line is =
+      let line′ : LineEnsures (held (e .session) t) old (taken .at) (held (e′ .session) t′) new (e′ .at) =
+      subst (λ (n : ℕ). LineEnsures (held (e .session) t) old n (held (e′ .session) t′) new (e′ .at)) (long .at) line in
+      subst (λ (x : Taken). RestEnsures chunk (taken .to) (held (taken .session) t) old (taken .at) (held (x .session) t′) (x .to) new (x .at)) (sym is)
+      (record {
+        streams = line-taken chunk (taken .to) to (end .1) (taken .session) (e .session) t (long .kept) (long .same) (long .line) inside line′;
+        onward = omega (arith, end);
+        inside = omega (arith, inside);
+        room = line′ .room;
+        few = omega (arith, line′ .counts, few, same-lines);
+      })
 
 -- ---- one after the other
 

@@ -1,6 +1,4 @@
-pub mod Slices
 pub mod Streaming
-pub mod Keeping
 pub mod Calling
 pub mod Reporting
 pub mod Feeding

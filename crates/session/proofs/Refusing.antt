@@ -1,6 +1,6 @@
 -- Where the engine refuses every call a session takes nothing; where a state of the model is represented it never does.
 -- Assumes nothing.
-use Prim.Native.Nat.{ℕ}
+use Prim.Native.Nat.{ℕ, _+_, _≤_, _<_}
 use native.Mathlib.Omega.{arith}
 use mathlib.Core.Path.{_≡_, refl, sym, ap, _∙_}
 use mathlib.Core.Bool.{Bool, true, false, not, _||_, true≢false}
@@ -10,15 +10,16 @@ use Rattle.window.specs.declared.refusal.Refusal.{Refusal}
 use Rattle.window.specs.Refusals.{refusalNumber}
 use Rattle.window.specs.Calls.{totals, refused}
 use Rattle.window.specs.Model as model
-use Rattle.window.specs.Model.{count, step, totalsOf}
+use Rattle.window.specs.Model.{count, step, stepAt, totalsOf}
 use Rattle.window.proofs.Steps.{accepted-refused}
 use Rattle.engine.specs.declared.calls.TotalsReply.{TotalsReply}
 use Rattle.engine.specs.declared.calls.TotalsReply.the-variants.{Totals, Refused}
-use Rattle.engine.specs.Tables.{tablesLong}
+use Rattle.board.specs.Tables.{tablesLong}
 use Rattle.engine.specs.Machine.{Machine}
 use Rattle.engine.specs.Outcomes.{totalsOutcome}
 use Rattle.engine.specs.Contracts.{Ensures, listDamaged}
-use Rattle.session.specs.Contracts.{Held, sessionMachine, refusesAll, RefusesEnsures, LinesEnsures, FeedEnsures}
+use Rattle.session.specs.Meaning.{lineRoom}
+use Rattle.session.specs.Contracts.{Held, sessionMachine, refusesAll, RefusesEnsures, lineLimit, TakenEnsures, FeedEnsures}
 use Rattle.session.proofs.Feeding.{streams-none}
 
 -- ---- what totals tells
@@ -38,7 +39,7 @@ not-refused m reply {n} {p} {a} {b} e told = record { always = λ q. absurd (go 
 
 -- totals that are refused
 pub refused-always : (m : Machine) (reply : TotalsReply) {r : Refusal} → reply ≡ Refused r → Ensures totals m (totalsOutcome reply) m → RefusesEnsures m true
-unfolding step totalsOf
+unfolding stepAt totalsOf
 refused-always m reply {r} e told = record { always = λ q. refl; never = λ s h. absurd (none s (told .agrees s h)) }
   where
     none : (s : model.State) → totalsOutcome reply ≡ (step s totals) .outcome → ⊥
@@ -57,5 +58,6 @@ module _ {chunk : List ℕ} {from : ℕ} {h : Held} {old : List ℕ} {refuses : 
       }
 
   -- one line after the other
-  pub fed-lines : {h′ : Held} {to filled : ℕ} {new : List ℕ} → refuses ≡ false → LinesEnsures chunk from h old h′ to new filled → FeedEnsures chunk from h old h′ to new filled
-  fed-lines e p = record { taken = p .taken; stops = λ r sh. p .stops; refuses = λ q. absurd (true≢false (sym (told .always q) ∙ e)) }
+  pub fed-lines : {h′ : Held} {to filled : ℕ} {new : List ℕ} → refuses ≡ false → TakenEnsures chunk from h old h′ to new filled → (to < length chunk → filled + lineRoom ≤ length old → lineLimit ≤ h′ .session .lines)
+      → FeedEnsures chunk from h old h′ to new filled
+  fed-lines e taken stops = record { taken = taken; stops = λ r sh. stops; refuses = λ q. absurd (true≢false (sym (told .always q) ∙ e)) }

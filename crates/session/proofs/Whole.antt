@@ -9,7 +9,7 @@ use lib.Seq.{slice}
 use Rattle.print.specs.Put.{Put}
 use Rattle.session.specs.Stream.{Running, Streamed, opened, following, fedAll, ended}
 use Rattle.session.specs.Contracts.{Held, Shown, Says, lineLimit}
-use Rattle.engine.specs.Tables.{Tables}
+use Rattle.board.specs.Tables.{Tables}
 use Rattle.session.specs.Whole.{Fed, none, more, Begun, Reached, WholeSession}
 use Rattle.session.proofs.Streaming.{whole-input, fed-append}
 

@@ -3,8 +3,8 @@
 use Prim.Native.Nat.{ℕ, _+_, _*_, _≤_, _<_}
 use mathlib.Core.Path.{_≡_}
 use mathlib.Core.Bool.{Bool, true, false, not, _&&_, _||_}
-use mathlib.Core.List.{List, []}
-use lib.Dec.{leb, ltb}
+use mathlib.Core.List.{List, [], _++_}
+use lib.Dec.{eqb, leb, ltb}
 use lib.IntN.{ℤ}
 use lib.ListN.{length, take}
 use lib.Seq.{slice}
@@ -16,21 +16,26 @@ use Rattle.window.specs.Model as model
 use Rattle.engine.specs.declared.calls.Answered.{Answered}
 use Rattle.engine.specs.declared.calls.Answered.the-variants as answered
 use Rattle.engine.specs.declared.calls.Reply.{Reply}
+use Rattle.engine.specs.declared.state.State.{State}
+use Rattle.registry.specs.declared.queries.Queries.{Queries}
 use Rattle.registry.specs.Records.{used, Tidy}
-use Rattle.engine.specs.Tables.{Tables, tablesLong, TablesKept}
+use Rattle.board.specs.Tables.{Tables, tablesLong, zeroedTables, TablesKept}
 use Rattle.engine.specs.States.{FreshState}
 use Rattle.engine.specs.Machine.{Machine, machine, Represents}
 use Rattle.engine.specs.Outcomes.{readingOutcome}
-use Rattle.engine.specs.Contracts.{zeroedTables, listDamaged}
+use Rattle.engine.specs.Contracts.{listDamaged}
 use Rattle.parse.specs.declared.line.Line.{Line}
+use Rattle.parse.specs.declared.kept.Kept.{Kept}
 use Rattle.parse.specs.Lines.{parsed}
+use Rattle.parse.specs.Kept.{keptLength, keptLine}
 use Rattle.print.specs.Lines.{totalsRoom}
 use Rattle.print.specs.Put.{Put, PutSome}
 use Rattle.session.specs.declared.call.Called.{Called}
-use Rattle.session.specs.declared.kept.Kept.{Kept}
+use Rattle.session.specs.declared.stream.Ended.{Ended}
 use Rattle.session.specs.declared.stream.Session.{Session}
+use Rattle.session.specs.declared.stream.Taken.{Taken}
 use Rattle.session.specs.Meaning.{lineStep, lineRoom}
-use Rattle.session.specs.Stream.{Running, Streamed, opened, lineEnded, fedAll, ended, begun, keptLength, keptLine}
+use Rattle.session.specs.Stream.{Running, Streamed, opened, lineEnded, fedAll, ended, begun}
 
 -- ---- one call
 
@@ -87,6 +92,18 @@ sessionMachine h = machine (h .session .state) (h .session .queries) (h .tables)
 abbrev pub keeping : Session → Kept → Session
 keeping s kept = record { state = s .state; queries = s .queries; lines = s .lines; kept = kept }
 
+-- the session that has this state, this query list and so many lines before the current one, which has no byte
+pub record NewLine (state : State) (queries : Queries) (lines : ℕ) (s : Session) : Type 0 where
+  pub is : s ≡ record { state = state; queries = queries; lines = lines; kept = s .kept }
+  pub none : s .kept .length ≡ 0
+
+-- the session with these bytes behind those of the current line
+pub record LongerEnsures (t : Taken) (bytes : List ℕ) (e : Ended) : Type 0 where
+  pub kept : Kept
+  pub same : e .session ≡ keeping (t .session) kept
+  pub line : keptLine kept ≡ take keptLength (keptLine (t .session .kept) ++ bytes)
+  pub at : e .at ≡ t .at
+
 -- what is held shows the running session r: the engine represents its model, and as many bytes of its line are kept as
 -- tell what it asks
 pub record Shown (r : Running) (h : Held) : Type 0 where
@@ -108,6 +125,10 @@ lineLimit = 18446744073709551614
 -- there is a byte to take, room for what the line that it may end prints, and a number for that line
 unfoldable pub goesOn : (to size at room lines : ℕ) → Bool
 goesOn to size at room lines = ltb to size && (leb (at + lineRoom) room && ltb lines lineLimit)
+
+-- the current line has a byte, and there is a number for it
+unfoldable pub hasLast : Session → Bool
+hasLast s = leb (s .lines) lineLimit && not (eqb (s .kept .length) 0)
 
 -- the current line ends
 pub record LineEnsures (h : Held) (old : List ℕ) (at : ℕ) (h′ : Held) (new : List ℕ) (next : ℕ) : Type 0 where
@@ -166,12 +187,6 @@ pub record TakenEnsures (chunk : List ℕ) (from : ℕ) (h : Held) (old : List �
   -- where no byte is taken, nothing changes
   pub still : to ≡ from → (h′ .session ≡ h .session) × NothingDone (h .tables) (h′ .tables) old new filled
 
--- one line after the other: bytes are left only where there is no room for what a line prints at most, or the lines
--- have come to their limit
-pub record LinesEnsures (chunk : List ℕ) (from : ℕ) (h : Held) (old : List ℕ) (h′ : Held) (to : ℕ) (new : List ℕ) (filled : ℕ) : Type 0 where
-  pub taken : TakenEnsures chunk from h old h′ to new filled
-  pub stops : to < length chunk → filled + lineRoom ≤ length old → lineLimit ≤ h′ .session .lines
-
 -- feed
 pub record FeedEnsures (chunk : List ℕ) (from : ℕ) (h : Held) (old : List ℕ) (h′ : Held) (to : ℕ) (new : List ℕ) (filled : ℕ) : Type 0 where
   pub taken : TakenEnsures chunk from h old h′ to new filled
@@ -183,14 +198,6 @@ pub record FeedEnsures (chunk : List ℕ) (from : ℕ) (h : Held) (old : List �
 -- what the end of the input prints at most
 abbrev pub finishRoom : ℕ
 finishRoom = lineRoom + totalsRoom
-
--- the last line, if it has a byte, ends
-pub record LastEnsures (h : Held) (old : List ℕ) (h′ : Held) (new : List ℕ) (next : ℕ) : Type 0 where
-  pub line : (r : Running) → Shown r h → h .session .lines ≤ lineLimit → begun (r .line) ≡ true → Says (lineEnded r) h′ old 0 new next
-  pub none : (r : Running) → Shown r h → begun (r .line) ≡ false → (h′ ≡ h) × Put old 0 [] new next
-  pub room : next ≤ lineRoom
-  pub puts : PutSome old 0 new next
-  pub kept : TablesKept (h .tables) (h′ .tables)
 
 -- finish: what the end of the input prints stands in the first places of the output
 pub record FinishEnsures (h : Held) (old : List ℕ) (t′ : Tables) (new : List ℕ) (filled : ℕ) : Type 0 where

@@ -1,13 +1,11 @@
 -- A session byte by byte: what is known between two bytes of the input, and what each byte prints.
 -- Assumes nothing.
-use Prim.Native.Nat.{ℕ, _+_}
+use Prim.Native.Nat.{ℕ}
 use mathlib.Core.Bool.{Bool, true, false, cond}
 use mathlib.Core.List.{List, [], _∷_, _++_}
 use lib.Dec.{eqb}
-use lib.ListN.{take}
-use Rattle.parse.specs.Lines.{lineLength, parsed}
+use Rattle.parse.specs.Lines.{parsed}
 use Rattle.session.specs.Meaning.{Position, Reported, fresh, lineReported, finished, totalsText}
-use Rattle.session.specs.declared.kept.Kept.{Kept}
 
 -- the position before the current line, and that line so far
 pub record Running : Type 0 where
@@ -56,13 +54,3 @@ begun (b ∷ bs) = true
 -- what the end of the input prints: what a last line that has a byte does, and the totals
 unfoldable pub ended : Running → List ℕ
 ended r = cond (begun (r .line)) (finished (lineReported (r .position) (parsed (r .line)))) (totalsText (r .position .state))
-
--- ---- for the code
-
--- how many bytes of a line are kept: one more than the longest has
-abbrev pub keptLength : ℕ
-keptLength = lineLength + 1
-
--- the bytes that are kept of the current line
-abbrev pub keptLine : Kept → List ℕ
-keptLine k = take (k .length) (k .bytes)

@@ -7,7 +7,7 @@ use mathlib.Core.Bool.{true}
 use mathlib.Core.List.{List, [], _++_}
 use lib.ListN.{length, take}
 use lib.Seq.{slice}
-use Rattle.engine.specs.Tables.{Tables, tablesLong}
+use Rattle.board.specs.Tables.{Tables, tablesLong}
 use Rattle.session.specs.Meaning.{sessionOutput}
 use Rattle.session.specs.Contracts.{Held, lineLimit, OpenEnsures, FeedEnsures, finishRoom, FinishEnsures}
 

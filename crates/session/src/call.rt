@@ -1,5 +1,6 @@
 // What a line asks of the engine.
 use engine::calls::Answered;
+use engine::calls::ReadingReply;
 use engine::calls::Reply;
 use engine::calls::reading;
 use engine::calls::register;
@@ -7,14 +8,15 @@ use engine::calls::withdraw;
 use engine::state::State;
 use parse::line::Line;
 use registry::queries::Queries;
-use window::query::Count;
+use window::count::Count;
+use window::refusal::Refusal;
 use window::refusal::Verdict;
 ghost use mathlib.Core.Path.{_≡_};
 ghost use lib.ListN.{length};
-ghost use Rattle.engine.specs.Tables.{tables};
+ghost use Rattle.board.specs.Tables.{tables};
 ghost use Rattle.engine.specs.Machine.{machine};
 ghost use Rattle.session.specs.Meaning.{answerTable};
-ghost use Rattle.session.specs.Contracts.{withoutAnswers, CallEnsures};
+ghost use Rattle.session.specs.Contracts.{noAnswers, withoutAnswers, CallEnsures};
 
 // What the call came to, with state and query list handed back: equal where it is refused.
 pub struct Called {
@@ -23,25 +25,48 @@ pub struct Called {
     pub queries: Queries,
 }
 
-// What a registration or a withdrawal came to: an accepted one has no answers.
+// An accepted registration or withdrawal has no answers.
+fn no_answers(verdict: Verdict) -> Answered
+    ensures { λ r. ⌜ r ≡ noAnswers verdict ⌝ }
+{
+    match verdict {
+        Verdict::Passed => Answered::Answers(0),
+        Verdict::Refused(refusal) => Answered::Refused(refusal),
+    }
+}
+
+// What a call came to, with what it left.
+fn came_to(outcome: Answered, state: State, queries: Queries) -> Called
+    ensures { λ r. ⌜ r ≡ record { outcome = outcome; state = state; queries = queries } ⌝ }
+{
+    Called {
+        outcome,
+        state,
+        queries,
+    }
+}
+
+// What a registration or a withdrawal came to.
 fn without_answers(reply: Reply) -> Called
     ensures { λ r. ⌜ r ≡ withoutAnswers reply ⌝ }
 {
-    let state = reply.state;
-    let queries = reply.queries;
     let verdict = reply.verdict;
-    match verdict {
-        Verdict::Passed => Called {
-            outcome: Answered::Answers(0),
-            state,
-            queries,
-        },
-        Verdict::Refused(refusal) => Called {
-            outcome: Answered::Refused(refusal),
-            state,
-            queries,
-        },
-    }
+    came_to(no_answers(verdict), reply.state, reply.queries)
+}
+
+// What a reading came to: it leaves the query list as it is.
+fn with_queries(reply: ReadingReply, queries: Queries) -> Called
+    ensures { λ r. ⌜ r ≡ record { outcome = reply .outcome; state = reply .state; queries = queries } ⌝ }
+{
+    let outcome = reply.outcome;
+    came_to(outcome, reply.state, queries)
+}
+
+// What a refused line came to, which makes no call.
+fn not_called(refusal: Refusal, state: State, queries: Queries) -> Called
+    ensures { λ r. ⌜ r ≡ record { outcome = Answered.Refused refusal; state = state; queries = queries } ⌝ }
+{
+    came_to(Answered::Refused(refusal), state, queries)
 }
 
 // The call that a line asks for; a line that is refused makes none.
@@ -94,8 +119,8 @@ pub(crate) fn call(
             min_values,
             number,
         )),
-        Line::Reading { value } => {
-            let reply = reading(
+        Line::Reading { value } => with_queries(
+            reading(
                 state,
                 queries,
                 starts,
@@ -106,22 +131,9 @@ pub(crate) fn call(
                 min_values,
                 answers,
                 value,
-            );
-            let outcome = reply.outcome;
-            let after = reply.state;
-            Called {
-                outcome,
-                state: after,
-                queries,
-            }
-        }
-        Line::Refused(refusal) => {
-            let outcome = Answered::Refused(refusal);
-            Called {
-                outcome,
-                state,
-                queries,
-            }
-        }
+            ),
+            queries,
+        ),
+        Line::Refused(refusal) => not_called(refusal, state, queries),
     }
 }

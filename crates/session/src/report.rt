@@ -1,8 +1,12 @@
-// What a line prints: the answers of a reading, or the refusal.
+// What a line prints, the answers of a reading or the refusal; and the totals at the end.
+use crate::call::Called;
 use engine::calls::Answered;
+use engine::state::State;
 use ints::magnitude;
 use print::line::put_answer;
 use print::line::put_refusal;
+use print::line::put_totals;
+use window::count::wide;
 ghost use Prim.Native.Nat.{_+_, _*_, _≤_};
 ghost use lib.ListN.{length};
 ghost use mathlib.Core.Path.{_≡_};
@@ -10,7 +14,7 @@ ghost use Rattle.window.specs.Refusals.{answerPlaces};
 ghost use Rattle.engine.specs.Answers.{answersIn};
 ghost use Rattle.engine.specs.Outcomes.{readingOutcome};
 ghost use Rattle.print.specs.Put.{Put};
-ghost use Rattle.print.specs.Lines.{answerRoom};
+ghost use Rattle.print.specs.Lines.{answerRoom, totalsLine, totalsRoom};
 ghost use Rattle.session.specs.Meaning.{answerTable, answerAt, answerText, answerTexts, printed, lineRoom};
 ghost use Rattle.session.specs.Contracts.{Within};
 
@@ -57,4 +61,37 @@ pub(crate) fn report(
         Answered::Answers(k) => report_answers(answers, k, n, out, at),
         Answered::Refused(refusal) => put_refusal(out, at, line, refusal.number() as u64),
     }
+}
+
+impl Called {
+    // What its line prints, with n readings accepted.
+    pub(crate) fn report(
+        self,
+        answers: &[i64],
+        n: u64,
+        line: u64,
+        out: &mut [u8],
+        at: usize,
+    ) -> usize
+        requires { ⌜ (Within (self .outcome) (now answers)) × ((length (now answers) ≡ answerTable) × (at + lineRoom ≤ length (now out))) ⌝ }
+        ensures { λ r. ⌜ (Put (now (out .entry)) at (printed n line (readingOutcome (self .outcome) (now (answers .entry)))) (now (out .exit)) r) × (r ≤ at + lineRoom) ⌝ }
+    {
+        let outcome = self.outcome;
+        report(outcome, answers, n, line, out, at)
+    }
+}
+
+// The totals of a state: n, P, M and N. It is lent the output alone, which keeps `finish` cheap to prove.
+pub(crate) fn report_totals(state: State, out: &mut [u8], at: usize) -> usize
+    requires { ⌜ at + totalsRoom ≤ length (now out) ⌝ }
+    ensures { λ r. ⌜ (Put (now (out .entry)) at (totalsLine (state .count) (state .board .closed) (state .board .maxima .comparisons) (state .board .minima .comparisons)) (now (out .exit)) r) × (r ≤ at + totalsRoom) ⌝ }
+{
+    put_totals(
+        out,
+        at,
+        wide(state.count),
+        wide(state.board.closed),
+        state.board.maxima.comparisons,
+        state.board.minima.comparisons,
+    )
 }

@@ -1,22 +1,26 @@
 // A session: it is opened on lent tables, fed its input in chunks, and finished.
+use crate::call::Called;
 use crate::call::call;
-use crate::kept::Kept;
-use crate::report::report;
+use crate::report::report_totals;
 use engine::calls::TotalsReply;
 use engine::state::State;
 use parse::fields::find_byte;
+use parse::kept::Kept;
 use print::line::ANSWER_ROOM;
 use print::line::TOTALS_ROOM;
-use print::line::put_totals;
 use registry::queries::Queries;
-use window::query::Count;
+use window::count::Count;
+use window::count::wide;
 ghost use mathlib.Core.Path.{_≡_};
 ghost use Prim.Native.Nat.{_+_, _<_, _≤_};
 ghost use lib.ListN.{length};
-ghost use Rattle.engine.specs.Tables.{tables};
+ghost use lib.Seq.{slice};
+ghost use Rattle.board.specs.Tables.{tables};
 ghost use Rattle.engine.specs.Machine.{machine};
+ghost use Rattle.print.specs.Lines.{totalsLine, totalsRoom};
+ghost use Rattle.print.specs.Put.{Put};
 ghost use Rattle.session.specs.Meaning.{answerTable, lineRoom};
-ghost use Rattle.session.specs.Contracts.{held, keeping, lineLimit, goesOn, RefusesEnsures, OpenEnsures, LineEnsures, RestEnsures, LinesEnsures, FeedEnsures, FinishEnsures, LastEnsures};
+ghost use Rattle.session.specs.Contracts.{held, keeping, NewLine, LongerEnsures, lineLimit, hasLast, goesOn, RefusesEnsures, OpenEnsures, LineEnsures, RestEnsures, FeedEnsures, FinishEnsures};
 
 // The places of the answer table: it is long enough for 32 answers.
 const ANSWER_TABLE: usize = 128;
@@ -54,6 +58,19 @@ pub struct Ended {
     pub at: usize,
 }
 
+// A session before the first byte of a line.
+fn new_line(state: State, queries: Queries, lines: u64) -> Session
+    ensures { λ r. ⌜ NewLine state queries lines r ⌝ }
+{
+    let kept = Kept::none();
+    Session {
+        state,
+        queries,
+        lines,
+        kept,
+    }
+}
+
 // Opens a session: a fresh engine, and no line yet.
 pub fn open(
     starts: &mut [Count],
@@ -75,20 +92,12 @@ pub fn open(
         min_starts,
         min_values,
     );
-    let state = reply.state;
-    let queries = reply.queries;
-    let kept = Kept::none();
-    Session {
-        state,
-        queries,
-        lines: 0,
-        kept,
-    }
+    new_line(reply.state, reply.queries, 0)
 }
 
 impl Session {
     // With these bytes kept of the current line.
-    pub(crate) fn keeping(self, kept: Kept) -> Session
+    fn keeping(self, kept: Kept) -> Session
         ensures { λ r. ⌜ r ≡ keeping self kept ⌝ }
     {
         let state = self.state;
@@ -99,6 +108,13 @@ impl Session {
             lines: self.lines,
             kept,
         }
+    }
+
+    // Whether the end of the input ends a line: it has a byte, and there is a number for it.
+    fn has_last(self) -> bool
+        ensures { λ r. ⌜ r ≡ hasLast self ⌝ }
+    {
+        self.lines <= LINE_LIMIT && self.kept.begun()
     }
 
     // Whether the engine refuses every call on entry: checks 1 and 2, as totals has no other.
@@ -113,11 +129,9 @@ impl Session {
     ) -> bool
         ensures { λ r. ⌜ RefusesEnsures (machine (self .state) (self .queries) (tables (now (starts .entry)) (now (sums .entry)) (now («max_starts» .entry)) (now («max_values» .entry)) (now («min_starts» .entry)) (now («min_values» .entry)))) r ⌝ }
     {
-        let state = self.state;
-        let queries = self.queries;
         match engine::calls::totals(
-            state,
-            queries,
+            self.state,
+            self.queries,
             starts,
             sums,
             max_starts,
@@ -128,6 +142,60 @@ impl Session {
             TotalsReply::Totals(_, _, _, _) => false,
             TotalsReply::Refused(_) => true,
         }
+    }
+}
+
+impl Called {
+    // The session after the call of this line, and the place in the output up to which it printed.
+    fn ended(self, lines: u64, at: usize) -> Ended
+        ensures { λ r. ⌜ (NewLine (self .state) (self .queries) lines (r .session)) × (r .at ≡ at) ⌝ }
+    {
+        let session = new_line(self.state, self.queries, lines);
+        Ended { session, at }
+    }
+}
+
+impl Taken {
+    // The session with the bytes of a chunk up to a place behind those of the current line.
+    fn longer(self, chunk: &[u8], to: usize) -> Ended
+        requires { ⌜ (self .to ≤ to) × (to ≤ length (now chunk)) ⌝ }
+        ensures { λ r. ⌜ LongerEnsures self (slice (self .to) to (now (chunk .entry))) r ⌝ }
+    {
+        let session = self.session
+            .keeping(self.session.kept.with(chunk, self.to, to));
+        Ended {
+            session,
+            at: self.at,
+        }
+    }
+
+    // Whether there is a byte to take, room for what the line that it may end prints, and a number for that line.
+    fn goes_on(self, size: usize, room: usize) -> bool
+        ensures { λ r. ⌜ r ≡ goesOn (self .to) size (self .at) room (self .session .lines) ⌝ }
+    {
+        goes_on(self.to, size, self.at, room, self.session.lines)
+    }
+}
+
+impl Ended {
+    // What was taken up to the end of the line, at this place.
+    fn taken(self, to: usize) -> Taken
+        ensures { λ r. ⌜ r ≡ record { session = self .session; to = to; at = self .at } ⌝ }
+    {
+        let session = self.session;
+        Taken {
+            session,
+            to,
+            at: self.at,
+        }
+    }
+
+    // The totals, behind what the line printed.
+    fn totals(self, out: &mut [u8]) -> usize
+        requires { ⌜ self .at + totalsRoom ≤ length (now out) ⌝ }
+        ensures { λ r. ⌜ (Put (now (out .entry)) (self .at) (totalsLine (self .session .state .count) (self .session .state .board .closed) (self .session .state .board .maxima .comparisons) (self .session .state .board .minima .comparisons)) (now (out .exit)) r) × (r ≤ self .at + totalsRoom) ⌝ }
+    {
+        report_totals(self.session.state, out, self.at)
     }
 }
 
@@ -148,14 +216,11 @@ pub(crate) fn end_line(
     ensures { λ r. ⌜ LineEnsures (held session (tables (now (starts .entry)) (now (sums .entry)) (now («max_starts» .entry)) (now («max_values» .entry)) (now («min_starts» .entry)) (now («min_values» .entry)))) (now (out .entry)) at
         (held (r .session) (tables (now (starts .exit)) (now (sums .exit)) (now («max_starts» .exit)) (now («max_values» .exit)) (now («min_starts» .exit)) (now («min_values» .exit)))) (now (out .exit)) (r .at) ⌝ }
 {
-    let kept = session.kept;
-    let state = session.state;
-    let queries = session.queries;
     let lines = session.lines + 1;
-    let line = kept.asks();
+    let line = session.kept.asks();
     let called = call(
-        state,
-        queries,
+        session.state,
+        session.queries,
         starts,
         sums,
         max_starts,
@@ -165,27 +230,15 @@ pub(crate) fn end_line(
         answers,
         line,
     );
-    let outcome = called.outcome;
-    let after = called.state;
-    let list = called.queries;
-    let n = after.count as u64;
-    let next = report(outcome, answers, n, lines, out, at);
-    let none = Kept::none();
-    Ended {
-        session: Session {
-            state: after,
-            queries: list,
-            lines,
-            kept: none,
-        },
-        at: next,
-    }
+    let n = wide(called.state.count);
+    let next = called.report(answers, n, lines, out, at);
+    called.ended(lines, next)
 }
 
-// The rest of a line: the bytes of the chunk from a place on, up to the next byte 10, which ends the line, or to the
-// chunk's end.
+// The rest of a line: the bytes of the chunk from the place up to which it was taken, up to the next byte 10, which
+// ends the line, or to the chunk's end.
 pub(crate) fn rest_of_line(
-    session: Session,
+    taken: Taken,
     starts: &mut [Count],
     sums: &mut [i64],
     max_starts: &mut [Count],
@@ -194,30 +247,22 @@ pub(crate) fn rest_of_line(
     min_values: &mut [i32],
     answers: &mut [i64],
     chunk: &[u8],
-    from: usize,
     out: &mut [u8],
-    at: usize,
 ) -> Taken
-    requires { ⌜ (length (now answers) ≡ answerTable) × ((at + lineRoom ≤ length (now out)) × (session .lines < lineLimit)) ⌝ }
-    requires { ⌜ from < length (now chunk) ⌝ }
-    ensures { λ r. ⌜ RestEnsures (now (chunk .entry)) from
-        (held session (tables (now (starts .entry)) (now (sums .entry)) (now («max_starts» .entry)) (now («max_values» .entry)) (now («min_starts» .entry)) (now («min_values» .entry)))) (now (out .entry)) at
+    requires { ⌜ (length (now answers) ≡ answerTable) × ((taken .at + lineRoom ≤ length (now out)) × (taken .session .lines < lineLimit)) ⌝ }
+    requires { ⌜ taken .to < length (now chunk) ⌝ }
+    ensures { λ r. ⌜ RestEnsures (now (chunk .entry)) (taken .to)
+        (held (taken .session) (tables (now (starts .entry)) (now (sums .entry)) (now («max_starts» .entry)) (now («max_values» .entry)) (now («min_starts» .entry)) (now («min_values» .entry)))) (now (out .entry)) (taken .at)
         (held (r .session) (tables (now (starts .exit)) (now (sums .exit)) (now («max_starts» .exit)) (now («max_values» .exit)) (now («min_starts» .exit)) (now («min_values» .exit)))) (r .to) (now (out .exit)) (r .at) ⌝ }
 {
-    let to = find_byte(chunk, from, 10);
-    let before = session.kept;
-    let kept = before.with(chunk, from, to);
-    let longer = session.keeping(kept);
+    let to = find_byte(chunk, taken.to, 10);
+    let mut ended = taken.longer(chunk, to);
     if chunk.len() <= to {
-        return Taken {
-            session: longer,
-            to,
-            at,
-        };
+        return ended.taken(to);
     }
     let next = to + 1;
-    let ended = end_line(
-        longer,
+    ended = end_line(
+        ended.session,
         starts,
         sums,
         max_starts,
@@ -226,14 +271,9 @@ pub(crate) fn rest_of_line(
         min_values,
         answers,
         out,
-        at,
+        ended.at,
     );
-    let after = ended.session;
-    Taken {
-        session: after,
-        to: next,
-        at: ended.at,
-    }
+    ended.taken(next)
 }
 
 // Whether there is a byte to take, room for what the line that it may end prints, and a number for that line.
@@ -250,53 +290,6 @@ fn goes_on(to: usize, size: usize, at: usize, room: usize, lines: u64) -> bool
         return false;
     }
     lines < LINE_LIMIT
-}
-
-// The lines of a chunk from a place on, one after the other, while there is a byte, room and a number.
-fn feed_lines(
-    session: Session,
-    starts: &mut [Count],
-    sums: &mut [i64],
-    max_starts: &mut [Count],
-    max_values: &mut [i32],
-    min_starts: &mut [Count],
-    min_values: &mut [i32],
-    chunk: &[u8],
-    from: usize,
-    out: &mut [u8],
-) -> Taken
-    ensures { λ r. ⌜ LinesEnsures (now (chunk .entry)) from
-        (held session (tables (now (starts .entry)) (now (sums .entry)) (now («max_starts» .entry)) (now («max_values» .entry)) (now («min_starts» .entry)) (now («min_values» .entry)))) (now (out .entry))
-        (held (r .session) (tables (now (starts .exit)) (now (sums .exit)) (now («max_starts» .exit)) (now («max_values» .exit)) (now («min_starts» .exit)) (now («min_values» .exit)))) (r .to) (now (out .exit)) (r .at) ⌝ }
-{
-    let mut answers = [0i64; ANSWER_TABLE];
-    let mut running = session;
-    let mut to = from;
-    let mut at = 0;
-    while goes_on(to, chunk.len(), at, out.len(), running.lines) {
-        let taken = rest_of_line(
-            running,
-            starts,
-            sums,
-            max_starts,
-            max_values,
-            min_starts,
-            min_values,
-            &mut answers,
-            chunk,
-            to,
-            out,
-            at,
-        );
-        running = taken.session;
-        to = taken.to;
-        at = taken.at;
-    }
-    Taken {
-        session: running,
-        to,
-        at,
-    }
 }
 
 // Takes bytes of a chunk from a place on, and puts what they print at the front of the output. It takes them all but
@@ -318,62 +311,30 @@ pub fn feed(
         (held session (tables (now (starts .entry)) (now (sums .entry)) (now («max_starts» .entry)) (now («max_values» .entry)) (now («min_starts» .entry)) (now («min_values» .entry)))) (now (out .entry))
         (held (r .session) (tables (now (starts .exit)) (now (sums .exit)) (now («max_starts» .exit)) (now («max_values» .exit)) (now («min_starts» .exit)) (now («min_values» .exit)))) (r .to) (now (out .exit)) (r .at) ⌝ }
 {
-    if session.refuses(starts, sums, max_starts, max_values, min_starts, min_values) {
-        return Taken {
-            session,
-            to: from,
-            at: 0,
-        };
-    }
-    feed_lines(
+    let mut taken = Taken {
         session,
-        starts,
-        sums,
-        max_starts,
-        max_values,
-        min_starts,
-        min_values,
-        chunk,
-        from,
-        out,
-    )
-}
-
-// The last line, if it has a byte.
-fn last_line(
-    session: Session,
-    starts: &mut [Count],
-    sums: &mut [i64],
-    max_starts: &mut [Count],
-    max_values: &mut [i32],
-    min_starts: &mut [Count],
-    min_values: &mut [i32],
-    answers: &mut [i64],
-    out: &mut [u8],
-) -> Ended
-    requires { ⌜ (length (now answers) ≡ answerTable) × (lineRoom ≤ length (now out)) ⌝ }
-    ensures { λ r. ⌜ LastEnsures (held session (tables (now (starts .entry)) (now (sums .entry)) (now («max_starts» .entry)) (now («max_values» .entry)) (now («min_starts» .entry)) (now («min_values» .entry)))) (now (out .entry))
-        (held (r .session) (tables (now (starts .exit)) (now (sums .exit)) (now («max_starts» .exit)) (now («max_values» .exit)) (now («min_starts» .exit)) (now («min_values» .exit)))) (now (out .exit)) (r .at) ⌝ }
-{
-    let kept = session.kept;
-    if LINE_LIMIT < session.lines {
-        return Ended { session, at: 0 };
+        to: from,
+        at: 0,
+    };
+    if session.refuses(starts, sums, max_starts, max_values, min_starts, min_values) {
+        return taken;
     }
-    if kept.begun() {
-        return end_line(
-            session,
+    let mut answers = [0i64; ANSWER_TABLE];
+    while taken.goes_on(chunk.len(), out.len()) {
+        taken = rest_of_line(
+            taken,
             starts,
             sums,
             max_starts,
             max_values,
             min_starts,
             min_values,
-            answers,
+            &mut answers,
+            chunk,
             out,
-            0,
         );
     }
-    Ended { session, at: 0 }
+    taken
 }
 
 // The end of the input: what a last line that has a byte prints, and the totals, at the front of the output. Nothing is
@@ -398,27 +359,20 @@ pub fn finish(
         return 0;
     }
     let mut answers = [0i64; ANSWER_TABLE];
-    let ended = last_line(
-        session,
-        starts,
-        sums,
-        max_starts,
-        max_values,
-        min_starts,
-        min_values,
-        &mut answers,
-        out,
-    );
-    let last = ended.session;
-    let state = last.state;
-    let maxima = state.maxima;
-    let minima = state.minima;
-    put_totals(
-        out,
-        ended.at,
-        state.count as u64,
-        state.closed as u64,
-        maxima.comparisons,
-        minima.comparisons,
-    )
+    if session.has_last() {
+        let ended = end_line(
+            session,
+            starts,
+            sums,
+            max_starts,
+            max_values,
+            min_starts,
+            min_values,
+            &mut answers,
+            out,
+            0,
+        );
+        return ended.totals(out);
+    }
+    report_totals(session.state, out, 0)
 }

@@ -1,7 +1,7 @@
 -- The bounds of `Bounded` hold after every list of calls; and how large a sum of readings can be.
 -- Assumes nothing.
 use mathlib.Core.Path.{_≡_, refl, subst}
-use mathlib.Core.Bool.{Bool, false, _||_}
+use mathlib.Core.Bool.{false, _||_}
 use mathlib.Core.Option.{Option, none, some}
 use mathlib.Core.List.{List, [], _∷_}
 use Prim.Native.Nat.{ℕ, _+_, _*_, _-_, _≤_, _<_, zero-le}
@@ -9,32 +9,25 @@ use native.Mathlib.Nat.{not-suc-le-zero}
 use native.Mathlib.Omega.{arith}
 use lib.Dec.{ltb}
 use lib.IntN.{ℤ, _+ℤ_}
-use lib.Signed.{leZ}
 use lib.ListN.{length}
 use borrow.Author.Tests.{le-ltb}
 use Rattle.ints.specs.Sizes.{Small}
 use Rattle.ints.proofs.Sizes.{small-more, small-add, small-reading}
 use Rattle.window.specs.declared.query.Query.{Query}
 use Rattle.window.specs.Lists.{any, Each}
-use Rattle.window.specs.Orders.{geZ, sum}
+use Rattle.window.specs.Orders.{sum}
 use Rattle.window.specs.Queries.{Limits, lengthLimit, queryLimit}
 use Rattle.window.specs.Partials.{Partial}
 use Rattle.window.specs.Refusals.{applying, fieldChecks, isRegistered, brokenRecord, sharedNumber, damaged}
 use Rattle.window.specs.Calls.{Call, IsReading}
 use Rattle.window.specs.Model.{State, count, reached}
-use Rattle.window.specs.Invariant.{Ordered, Tracked, Distinct, Shape, Amortized, Invariant, Bounded}
+use Rattle.window.specs.Invariant.{Ordered, Tracked, Distinct, Shape, Invariant, Bounded}
 use Rattle.window.proofs.Lists.{or-neither, each-map}
 use Rattle.window.proofs.Refusals.{limits-any}
 use Rattle.window.proofs.Tiling.{ordered-before, ordered-count}
 use Rattle.window.proofs.Tracking.{shape-ordered, open-within-slide}
 use Rattle.window.proofs.Preserved.{reached-invariant}
 use Rattle.window.proofs.Windows.{live-few}
-
--- ---- the comparisons
-
--- m is at most 2 P - 2, and 0 where P is 0
-amortized-bound : (below : ℤ → ℤ → Bool) (m : ℕ) (rs : List ℤ) (ps : List Partial) → Amortized below m rs ps → m ≤ 2 * length ps - 2
-amortized-bound below m rs ps h = omega arith
 
 -- ---- partials
 
@@ -101,8 +94,6 @@ undamaged s i =
 pub bounded : (s : State) → Invariant s → Bounded s
 bounded s i =
     record {
-      maxima = amortized-bound leZ (s .maxComparisons) (s .readings) (s .closed) (i .withinLimits .maxAmortized);
-      minima = amortized-bound geZ (s .minComparisons) (s .readings) (s .closed) (i .withinLimits .minAmortized);
       closedCount = omega (arith, ordered-count 0 (s .closed) (count s) (ordered s i));
       liveFew = live-few s i;
       openWithinSlides = open-within-slides s i;

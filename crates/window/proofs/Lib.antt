@@ -6,7 +6,6 @@ pub mod Refusals
 pub mod Standing
 pub mod Tiling
 pub mod Tracking
-pub mod Comparisons
 pub mod Preserved
 pub mod Windows
 pub mod Bounds

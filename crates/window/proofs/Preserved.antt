@@ -9,25 +9,22 @@ use native.Mathlib.Nat.{le-refl}
 use native.Mathlib.Omega.{arith}
 use lib.Dec.{ltb, eqb}
 use lib.IntN.{ℤ}
-use lib.Signed.{leZ}
 use lib.ListN.{length, length-append}
 use borrow.Author.Tests.{ltb-true, ltb-false, eqb-false, ne-eqb}
 use Rattle.window.specs.declared.query.Query.{Query}
 use Rattle.window.specs.declared.refusal.Verdict.{Verdict}
 use Rattle.window.specs.declared.refusal.Verdict.the-variants.{Passed, Refused}
 use Rattle.window.specs.Lists.{filter, any, Each}
-use Rattle.window.specs.Orders.{geZ}
 use Rattle.window.specs.Queries.{Limits, lengthLimit, countLimit, edge, horizon}
 use Rattle.window.specs.Partials.{Partial, spanning}
 use Rattle.window.specs.Refusals.{firstRefusal, registerChecks, withdrawChecks, readingChecks, hasNumber, isRegistered}
 use Rattle.window.specs.Calls.{Call, start, register, withdraw, reading, totals}
-use Rattle.window.specs.Model.{State, count, initial, standingAt, closingComparisons, closeAt, closeWhere, holdsReading, withQuery, afterRegister, openIfAny, afterWithdraw, readingTaken, closeAtEdge, afterReading, Stepped, answered, totalsOf, judged, newQuery, step, run, reached}
+use Rattle.window.specs.Model.{State, count, initial, standingAt, closingComparisons, closeAt, closeWhere, holdsReading, withQuery, afterRegister, openIfAny, afterWithdraw, readingTaken, closeAtEdge, afterReading, Stepped, answered, totalsOf, judged, newQuery, step, stepAt, run, reached}
 use Rattle.window.specs.Invariant.{Ordered, Short, Tracked, Distinct, Shape, WithinLimits, Invariant}
 use Rattle.window.proofs.Lists.{or-neither, not-left, not-right, each-map, each-append, each-filter, length-filter, any-append, any-filter}
 use Rattle.window.proofs.Refusals.{Joins, register-passed, reading-passed}
 use Rattle.window.proofs.Tiling.{ordered-weaken, ordered-snoc}
 use Rattle.window.proofs.Tracking.{shape-ordered, track-all, track-close, track-new, closes-short}
-use Rattle.window.proofs.Comparisons.{closed-amortized, grown-amortized}
 
 -- ---- each step keeps what does not depend on the open partial
 
@@ -40,8 +37,6 @@ taken-within-limits s v room o k =
       limits = k .limits;
       counted = omega (arith, length-append (s .readings) (v ∷ []), room);
       short = k .short;
-      maxAmortized = grown-amortized leZ (s .maxComparisons) (s .readings) (v ∷ []) (s .closed) o (k .maxAmortized);
-      minAmortized = grown-amortized geZ (s .minComparisons) (s .readings) (v ∷ []) (s .closed) o (k .minAmortized);
     }
 
 closed-within-limits : (s : State) (a : ℕ) → Ordered 0 (s .closed) a → count s ≤ a + lengthLimit → WithinLimits s → WithinLimits (closeAt s a)
@@ -55,8 +50,6 @@ closed-within-limits s a o l k =
       limits = k .limits;
       counted = k .counted;
       short = each-append Short (s .closed) (p ∷ []) (k .short) (l, tt);
-      maxAmortized = closed-amortized leZ (s .maxComparisons) (s .readings) (s .closed) a h p o (k .maxAmortized);
-      minAmortized = closed-amortized geZ (s .minComparisons) (s .readings) (s .closed) a h p o (k .minAmortized);
     }
 
 eqb-swap : (a b : ℕ) → eqb a b ≡ false → eqb b a ≡ false
@@ -81,8 +74,6 @@ withQuery-within-limits s q j k =
       limits = each-append Limits (s .queries) (q ∷ []) (k .limits) (j .limits, tt);
       counted = k .counted;
       short = k .short;
-      maxAmortized = k .maxAmortized;
-      minAmortized = k .minAmortized;
     }
 
 distinct-filter : (keep : Query → Bool) (qs : List Query) → Distinct qs → Distinct (filter keep qs)
@@ -103,8 +94,6 @@ withdrawn-within-limits s k i =
       limits = each-filter Limits keep (s .queries) (i .limits);
       counted = i .counted;
       short = i .short;
-      maxAmortized = i .maxAmortized;
-      minAmortized = i .minAmortized;
     }
 
 -- ---- each call keeps the invariant
@@ -120,8 +109,6 @@ initial-invariant =
             limits = tt;
             counted = zero-le;
             short = tt;
-            maxAmortized = record { bound = zero-le; someStand = zero-le };
-            minAmortized = record { bound = zero-le; someStand = zero-le };
           };
     }
 
@@ -222,7 +209,7 @@ judged-keeps P Passed s t h f = f refl
 judged-keeps P (Refused r) s t h f = h
 
 pub step-invariant : (s : State) (c : Call) → Invariant s → Invariant ((step s c) .state)
-unfolding step answered totalsOf
+unfolding stepAt answered totalsOf
 step-invariant s start i = initial-invariant
 step-invariant s (register number kind range slide) i =
     judged-keeps Invariant (firstRefusal (registerChecks (s .queries) number kind range slide)) s _ i

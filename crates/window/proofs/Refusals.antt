@@ -1,9 +1,9 @@
--- The laws of the checks: what holds of a call that passes them, and that the fields which pass are those within the
--- limits.
+-- The laws of the checks: what two runs of them come to, that the fields which pass are those within the limits, and
+-- what holds of a call that passes.
 -- Assumes nothing.
 use mathlib.Core.Path.{_≡_, refl, sym, ap, subst}
 use mathlib.Core.Bool.{Bool, true, false, _||_, cond}
-use mathlib.Core.List.{List, [], _∷_}
+use mathlib.Core.List.{List, [], _∷_, _++_}
 use Prim.Native.Nat.{ℕ, _+_, _*_, _≤_, _<_}
 use native.Mathlib.Omega.{arith}
 use lib.Dec.{leb}
@@ -16,7 +16,7 @@ use Rattle.window.specs.declared.refusal.Verdict.{Verdict}
 use Rattle.window.specs.declared.refusal.Verdict.the-variants.{Passed, Refused}
 use Rattle.window.specs.Lists.{any, Each}
 use Rattle.window.specs.Queries.{Limits, numberLimit, kindLimit, lengthLimit, queryLimit, countLimit}
-use Rattle.window.specs.Refusals.{Check, firstRefusal, within, applying, isRegistered, dueAt, answerPlaces, fieldChecks, listChecks, registerChecks, readingChecks}
+use Rattle.window.specs.Refusals.{Check, firstRefusal, within, applying, isRegistered, dueAt, answerPlaces, nameChecks, lengthChecks, fieldChecks, listChecks, registerChecks, countChecks, placesChecks, readingChecks, readingChecksAt}
 use Rattle.window.proofs.Lists.{and-left, and-right, or-neither, not-left, not-right}
 
 -- a check of the list does not apply
@@ -73,6 +73,25 @@ refused-any (c ∷ cs) r e = go (c .applies) e (λ k. refused-any cs r k)
     go true k ih = refl
     go false k ih = ih k
 
+-- ---- two runs of checks, one after the other
+
+-- where the first passes, the second decides
+pub passed-then : (cs ds : List Check) → any applying cs ≡ false → firstRefusal (cs ++ ds) ≡ firstRefusal ds
+passed-then [] ds e = refl
+passed-then (c ∷ cs) ds e = rw (not-left (c .applies) (any applying cs) e) (passed-then cs ds (not-right (c .applies) (any applying cs) e))
+
+-- where the first refuses, that decides
+pub refused-then : (cs ds : List Check) (r : Refusal) → firstRefusal cs ≡ Refused r → firstRefusal (cs ++ ds) ≡ Refused r
+refused-then [] ds r e = refused-passed r (sym e)
+refused-then (c ∷ cs) ds r e = go (c .applies) e (refused-then cs ds r)
+  where
+    go : (b : Bool) → cond b (Refused (c .refusal)) (firstRefusal cs) ≡ Refused r → (firstRefusal cs ≡ Refused r → firstRefusal (cs ++ ds) ≡ Refused r)
+        → cond b (Refused (c .refusal)) (firstRefusal (cs ++ ds)) ≡ Refused r
+    go true k ih = k
+    go false k ih = ih k
+
+-- ---- fields
+
 within-low : (low high x : ℕ) → within low high x ≡ true → low ≤ x
 within-low low high x h = leb-true low x (and-left (leb low x) (leb x high) h)
 
@@ -82,11 +101,9 @@ within-high low high x h = leb-true x high (and-right (leb low x) (leb x high) h
 within-both : (low high x : ℕ) → low ≤ x → x ≤ high → within low high x ≡ true
 within-both low high x l h = rw (le-leb low x l, le-leb x high h)
 
--- ---- fields
-
 -- what the checks of the fields leave
 fields-within : (q : Query) → Each NotApplying (fieldChecks (q .number) (q .kind) (q .range) (q .slide)) → Limits q
-unfolding fieldChecks
+unfolding nameChecks lengthChecks fieldChecks
 fields-within q a =
     let number = not-false _ (a .0) in
     let kind = not-false _ (a .1 .0) in
@@ -108,7 +125,7 @@ pub fields-passed : (q : Query) → firstRefusal (fieldChecks (q .number) (q .ki
 fields-passed q e = fields-within q (passed-each (fieldChecks (q .number) (q .kind) (q .range) (q .slide)) e)
 
 pub limits-any : (q : Query) → Limits q → any applying (fieldChecks (q .number) (q .kind) (q .range) (q .slide)) ≡ false
-unfolding fieldChecks
+unfolding nameChecks lengthChecks fieldChecks
 limits-any q g =
     rw (
       within-both 1 numberLimit (q .number) (g .numberLow) (g .numberHigh),
@@ -126,7 +143,7 @@ pub record Joins (qs : List Query) (q : Query) : Type 0 where
   pub room : length qs < queryLimit
 
 pub register-passed : (qs : List Query) (q : Query) → firstRefusal (registerChecks qs (q .number) (q .kind) (q .range) (q .slide)) ≡ Passed → Joins qs q
-unfolding registerChecks fieldChecks listChecks
+unfolding registerChecks nameChecks lengthChecks fieldChecks listChecks
 register-passed qs q e =
     let a = passed-each (registerChecks qs (q .number) (q .kind) (q .range) (q .slide)) e in
     record {
@@ -135,13 +152,18 @@ register-passed qs q e =
       room = leb-false queryLimit (length qs) (a .1 .1 .1 .1 .1 .0);
     }
 
+-- a count that passes is below the limit
+pub count-passed : (limit n : ℕ) → firstRefusal (countChecks limit n) ≡ Passed → n < limit
+unfolding countChecks
+count-passed limit n e = leb-false limit n (passed-each (countChecks limit n) e .0)
+
 -- a reading that passes can be counted, and its answers have room
 pub record Counts (n : ℕ) (qs : List Query) (places : ℕ) : Type 0 where
   pub room : n < countLimit
   pub answersFit : answerPlaces * length (dueAt (n + 1) qs) ≤ places
 
 pub reading-passed : (n : ℕ) (qs : List Query) (places : ℕ) → firstRefusal (readingChecks n qs places) ≡ Passed → Counts n qs places
-unfolding readingChecks
+unfolding countChecks placesChecks readingChecksAt
 reading-passed n qs places e =
     let a = passed-each (readingChecks n qs places) e in
     record { room = leb-false countLimit n (a .0); answersFit = ltb-false places _ (a .1 .0) }

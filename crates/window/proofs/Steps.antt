@@ -16,9 +16,9 @@ use Rattle.window.specs.declared.refusal.Verdict.{Verdict}
 use Rattle.window.specs.declared.refusal.Verdict.the-variants.{Passed, Refused}
 use Rattle.window.specs.Lists.{any, Each}
 use Rattle.window.specs.Queries.{edge, horizon}
-use Rattle.window.specs.Refusals.{refusalNumber, firstRefusal, fieldChecks, listChecks, registerChecks, withdrawChecks, readingChecks, hasNumber}
+use Rattle.window.specs.Refusals.{refusalNumber, firstRefusal, nameChecks, lengthChecks, fieldChecks, listChecks, registerChecks, withdrawChecks, countChecks, placesChecks, readingChecks, readingChecksAt, hasNumber}
 use Rattle.window.specs.Calls.{Call, start, register, withdraw, reading, totals, OfReading, Answer, Outcome, accepted, refused}
-use Rattle.window.specs.Model.{State, count, closeAt, closeWhere, holdsReading, withQuery, afterRegister, afterWithdraw, readingTaken, closeAtEdge, afterReading, Stepped, answers, answered, totalsOf, judged, newQuery, step}
+use Rattle.window.specs.Model.{State, count, closeAt, closeWhere, holdsReading, withQuery, afterRegister, afterWithdraw, readingTaken, closeAtEdge, afterReading, Stepped, answers, answered, totalsOf, judged, newQuery, step, stepAt}
 use Rattle.window.proofs.Lists.{each-append}
 use Rattle.window.proofs.Queries.{horizon-later, horizon-more, horizon-fewer}
 use Rattle.window.specs.Invariant.{Invariant}
@@ -43,7 +43,7 @@ judged-refused Passed s t ns bs k a e = accepted-refused ns bs k (sym a ∙ e)
 judged-refused (Refused r) s t ns bs k a e = refl
 
 pub refused-unchanged : (s : State) (c : Call) (k : ℕ) → (step s c) .outcome ≡ refused k → (step s c) .state ≡ s
-unfolding step answered totalsOf
+unfolding stepAt answered totalsOf
 refused-unchanged s start k e = accepted-refused (0 ∷ []) [] k e
 refused-unchanged s (register number kind range slide) k e =
     judged-refused (firstRefusal (registerChecks (s .queries) number kind range slide)) s _ (0 ∷ []) [] k refl e
@@ -63,7 +63,7 @@ judged-number (Refused r) s t ns bs k a h e = subst (λ (n : ℕ). 3 ≤ n) (ap 
 
 -- none but 3 to 11: 1 and 2 are judged on tables and a state that it does not have
 pub refused-from-three : (s : State) (c : Call) (k : ℕ) → (step s c) .outcome ≡ refused k → 3 ≤ k
-unfolding step answered totalsOf registerChecks fieldChecks listChecks withdrawChecks readingChecks
+unfolding stepAt answered totalsOf registerChecks nameChecks lengthChecks fieldChecks listChecks withdrawChecks countChecks placesChecks readingChecksAt
 refused-from-three s start k e = accepted-refused (0 ∷ []) [] k e
 refused-from-three s (register number kind range slide) k e =
     judged-number (firstRefusal (registerChecks (s .queries) number kind range slide)) s _ (0 ∷ []) [] k refl
@@ -110,7 +110,7 @@ register-queries s q =
 -- ---- every reading of the model was handed over by an accepted reading call
 
 pub step-readings : (P : ℤ → Type 0) (s : State) (c : Call) → OfReading P c → Each P (s .readings) → Each P ((step s c) .state .readings)
-unfolding step answered totalsOf afterWithdraw
+unfolding stepAt answered totalsOf afterWithdraw
 step-readings P s start p h = tt
 step-readings P s (register number kind range slide) p h =
     judged-keeps (λ (x : State). Each P (x .readings)) (firstRefusal (registerChecks (s .queries) number kind range slide)) s _ h
@@ -135,7 +135,7 @@ reading-horizon : (s : State) (v : ℤ) → horizonOf s ≤ horizonOf (afterRead
 reading-horizon s v = rw (reading-readings s v, reading-queries s v, length-append (s .readings) (v ∷ [])) (horizon-later (count s) (s .queries))
 
 pub horizon-rises : (s : State) (c : Call) → Invariant s → (c ≡ start → ⊥) → horizonOf s ≤ horizonOf ((step s c) .state)
-unfolding step answered totalsOf afterWithdraw
+unfolding stepAt answered totalsOf afterWithdraw
 horizon-rises s start i n = absurd (n refl)
 horizon-rises s (register number kind range slide) i n =
     judged-keeps (λ (x : State). horizonOf s ≤ horizonOf x) (firstRefusal (registerChecks (s .queries) number kind range slide)) s _ (le-refl (horizonOf s))

@@ -1,18 +1,18 @@
 -- The laws of partials that lie in order or tile a stretch of the readings: W2 and W3.
 -- Assumes nothing.
 use mathlib.Core.Path.{_≡_, refl, sym, ap, _∙_}
-use mathlib.Core.Bool.{Bool, true, false, cond}
+use mathlib.Core.Bool.{false}
 use mathlib.Core.List.{List, [], _∷_, _++_, map}
 use Prim.Native.Nat.{ℕ, _+_, _≤_, _<_}
 use native.Mathlib.Nat.{le-refl}
 use native.Mathlib.Omega.{arith}
 use lib.ListN.{length, take, drop, take-append-drop}
 use lib.Seq.{slice-empty, length-slice, take-take, length-take-le, drop-append-le, take-append-le}
-use borrow.Author.Tests.{leb-false, le-leb, lt-leb}
+use borrow.Author.Tests.{le-leb, lt-leb}
 use Rattle.window.specs.Lists.{joined, Each}
 use Rattle.window.specs.Orders.{aggregate}
 use Rattle.window.specs.Partials.{Partial, spanning, Entry, between, readingsOf, entry, entries, live, partialsFrom, entriesFrom, valueOf}
-use Rattle.window.specs.Invariant.{Ordered, Tiles, Sorted}
+use Rattle.window.specs.Invariant.{Ordered, Tiles}
 use Rattle.window.proofs.Lists.{each-map, filter-append, filter-none, filter-map}
 use Rattle.window.proofs.Orders.{aggregate-joined}
 
@@ -30,11 +30,6 @@ ordered-weaken a (p ∷ ps) c d l h = (h .0, h .1, ordered-weaken (p .stop) ps c
 pub ordered-snoc : (a : ℕ) (ps : List Partial) (c d : ℕ) → c < d → Ordered a ps c → Ordered a (ps ++ (spanning c d ∷ [])) d
 ordered-snoc a [] c d l h = (h, l, le-refl d)
 ordered-snoc a (p ∷ ps) c d l h = (h .0, h .1, ordered-snoc (p .stop) ps c d l (h .2))
-
--- every start is at or after a
-pub ordered-after : (a : ℕ) (ps : List Partial) (c : ℕ) → Ordered a ps c → Each (λ (p : Partial). a ≤ p .start) ps
-ordered-after a [] c h = tt
-ordered-after a (p ∷ ps) c h = (h .0, each-map (λ (q : Partial). p .stop ≤ q .start) (λ (q : Partial). a ≤ q .start) (λ q k. omega arith) ps (ordered-after (p .stop) ps c (h .2)))
 
 -- each holds a reading, and is over by c
 pub ordered-before : (a : ℕ) (ps : List Partial) (c : ℕ) → Ordered a ps c → Each (λ (p : Partial). (p .start < p .stop) × (p .stop ≤ c)) ps
@@ -69,47 +64,12 @@ from-none a ps m o =
 pub from-snoc : (m : ℕ) (ps : List Partial) (p : Partial) → m ≤ p .start → partialsFrom m (ps ++ (p ∷ [])) ≡ partialsFrom m ps ++ (p ∷ [])
 from-snoc m ps p l = filter-append (λ (q : Partial). live m (q .start)) ps (p ∷ []) ∙ rw (le-leb m (p .start) l)
 
--- those from a later place on, of those from an earlier one on
-pub from-from : (h h′ : ℕ) (ps : List Partial) → h ≤ h′ → partialsFrom h′ (partialsFrom h ps) ≡ partialsFrom h′ ps
-from-from h h′ [] l = refl
-from-from h h′ (p ∷ ps) l = go (live h (p .start)) refl (from-from h h′ ps l)
-  where
-    go : (b : Bool) → live h (p .start) ≡ b → partialsFrom h′ (partialsFrom h ps) ≡ partialsFrom h′ ps
-        → partialsFrom h′ (cond b (p ∷ partialsFrom h ps) (partialsFrom h ps)) ≡ partialsFrom h′ (p ∷ ps)
-    go true e ih = rw ih
-    go false e ih = rw (lt-leb h′ (p .start) (omega (arith, leb-false h (p .start) e)), ih)
-
--- those from a place on lie in order where all do
-pub ordered-from : (h a b : ℕ) (ps : List Partial) (c : ℕ) → a ≤ b → Ordered b ps c → Ordered a (partialsFrom h ps) c
-ordered-from h a b [] c l o = omega arith
-ordered-from h a b (p ∷ ps) c l o = go (live h (p .start)) (λ d k. ordered-from h d (p .stop) ps c k (o .2))
-  where
-    go : (t : Bool) → ((d : ℕ) → d ≤ p .stop → Ordered d (partialsFrom h ps) c) → Ordered a (cond t (p ∷ partialsFrom h ps) (partialsFrom h ps)) c
-    go true f = (omega arith, o .1, f (p .stop) (le-refl (p .stop)))
-    go false f = f a (omega arith)
-
 -- ---- their entries
 
 module _ {A B : Type 0} (f : List A → B) (rs : List A) where
-  each-entry : (P : ℕ → Type 0) (ps : List Partial) → Each (λ (p : Partial). P (p .start)) ps → Each (λ (e : Entry B). P (e .start)) (entries f rs ps)
-  each-entry P [] h = tt
-  each-entry P (p ∷ ps) h = (h .0, each-entry P ps (h .1))
-
-  pub ordered-sorted : (a : ℕ) (ps : List Partial) (c : ℕ) → Ordered a ps c → Sorted (entries f rs ps)
-  ordered-sorted a [] c h = tt
-  ordered-sorted a (p ∷ ps) c h = (
-    each-entry (λ (k : ℕ). p .start ≤ k) ps
-        (each-map (λ (q : Partial). p .stop ≤ q .start) (λ (q : Partial). p .start ≤ q .start) (λ q k. omega (arith, h .1)) ps (ordered-after (p .stop) ps c (h .2))),
-    ordered-sorted (p .stop) ps c (h .2),
-  )
-
   -- the entries from a place on are those of the partials from there on
   pub entries-from : (m : ℕ) (ps : List Partial) → entriesFrom m (entries f rs ps) ≡ entries f rs (partialsFrom m ps)
   entries-from m ps = filter-map (entry f rs) (λ (e : Entry B). live m (e .start)) ps
-
-  pub entries-snoc : (ps : List Partial) (p : Partial) → entries f rs (ps ++ (p ∷ [])) ≡ entries f rs ps ++ (entry f rs p ∷ [])
-  entries-snoc [] p = refl
-  entries-snoc (q ∷ qs) p = ap (λ (l : List (Entry B)). entry f rs q ∷ l) (entries-snoc qs p)
 
 -- ---- stretches of readings
 
@@ -121,11 +81,6 @@ between-join {A} rs a b c h k l =
 -- later readings do not change it
 pub between-stable : {A : Type 0} (rs more : List A) (a b : ℕ) → b ≤ length rs → between (rs ++ more) a b ≡ between rs a b
 between-stable rs more a b k = ap (drop a) (take-append-le b rs more k)
-
--- nor the entries of partials that are over
-pub entries-stable : {A B : Type 0} (f : List A → B) (rs more : List A) (a : ℕ) (ps : List Partial) → Ordered a ps (length rs) → entries f (rs ++ more) ps ≡ entries f rs ps
-entries-stable f rs more a [] h = refl
-entries-stable f rs more a (p ∷ ps) h = rw (between-stable rs more (p .start) (p .stop) (ordered-le (p .stop) ps (length rs) (h .2)), entries-stable f rs more (p .stop) ps (h .2))
 
 -- ---- a tiled stretch
 

@@ -1,7 +1,7 @@
 -- Windows from partials: the answers of a due query by the closed partials and by the standing ones (W1 and W5), and
 -- how many partials are live (W6). Facts for maxima and minima come from one argument over the order.
 -- Assumes nothing.
-use mathlib.Core.Path.{_≡_, refl, sym, ap, _∙_, subst}
+use mathlib.Core.Path.{_≡_, refl, subst}
 use mathlib.Core.Bool.{Bool, true, false, cond}
 use mathlib.Core.Option.{Option, none, some}
 use mathlib.Core.List.{List, [], _∷_, map}
@@ -15,17 +15,15 @@ use lib.Seq.{length-slice}
 use borrow.Author.Tests.{leb-true}
 use Rattle.window.specs.declared.query.Query.{Query}
 use Rattle.window.specs.Lists.{Each}
-use Rattle.window.specs.Orders.{Order, aggregate, greater, extreme}
+use Rattle.window.specs.Orders.{aggregate, greater}
 use Rattle.window.specs.Queries.{Limits, lengthLimit, due, windowStart, horizon}
-use Rattle.window.specs.Partials.{Partial, between, entry, entries, partialsFrom, entriesFrom, valueOf}
-use Rattle.window.specs.Standing.{standing, frontOf}
+use Rattle.window.specs.Partials.{Partial, between, entries, partialsFrom, entriesFrom, valueOf}
 use Rattle.window.specs.Calls.{Call}
 use Rattle.window.specs.Model.{State, count, reached}
 use Rattle.window.specs.Invariant.{Ordered, Tiles, Tracked, Shape, Invariant, FromPartials, DueFromPartials}
 use Rattle.window.proofs.Orders.{greater-assoc}
 use Rattle.window.proofs.Queries.{due-marks, window-marks, window-nonempty, horizon-far}
-use Rattle.window.proofs.Standing.{standing-from, standing-front}
-use Rattle.window.proofs.Tiling.{ordered-le, ordered-weaken, ordered-sorted, tiles-le, entries-from, aggregate-tiles}
+use Rattle.window.proofs.Tiling.{ordered-le, ordered-weaken, tiles-le, entries-from, aggregate-tiles}
 use Rattle.window.proofs.Tracking.{shape-ordered}
 use Rattle.window.proofs.Preserved.{reached-invariant}
 
@@ -54,20 +52,6 @@ module _ (rs : List ℤ) (m : ℕ) (ps : List Partial) (c : ℕ) (l : m < c) (k 
       go [] h = absurd (lt-irrefl c (rw h at l))
       go (q ∷ qs) h = aggregate-tiles rs op e assoc m q qs c k h
 
-  -- its extreme is the value of the first standing entry from there on
-  stretch-extreme : (below : ℤ → ℤ → Bool) → Order below → Ordered 0 ps c
-      → extreme below (between rs m c) ≡ frontOf (pos 0) (entriesFrom m (standing below (entries (extreme below) rs ps)))
-  stretch-extreme below order o =
-      stretch-aggregate (greater below) (pos 0) (greater-assoc below order)
-      ∙ sym (ap (frontOf (pos 0)) (sym (standing-from below m (entries (extreme below) rs ps) (ordered-sorted (extreme below) rs 0 ps c o))) ∙ front)
-    where
-      go : (qs : List Partial) → frontOf (pos 0) (standing below (entries (extreme below) rs qs)) ≡ extreme below (map valueOf (entries (extreme below) rs qs))
-      go [] = refl
-      go (q ∷ qs) = standing-front below order (pos 0) (entry (extreme below) rs q) (entries (extreme below) rs qs)
-
-      front : frontOf (pos 0) (standing below (entriesFrom m (entries (extreme below) rs ps))) ≡ extreme below (map valueOf (entriesFrom m (entries (extreme below) rs ps)))
-      front = rw (entries-from (extreme below) rs m ps) (go (partialsFrom m ps))
-
 -- ---- W5: what a due query is answered, from partials
 
 one-from-partials : (s : State) (a : ℕ) (q : Query) → Limits q → a ≤ count s → Ordered 0 (s .closed) (count s) → Tracked (count s) (s .closed) a q → due (count s) q ≡ true
@@ -80,7 +64,7 @@ one-from-partials s a q g l o t h =
     record {
       counts = length-slice w n (s .readings) (le-refl n);
       sums = stretch-aggregate (s .readings) w (s .closed) n some-reading (le-refl n) tiled _+ℤ_ (pos 0) +ℤ-assoc;
-      extremes = λ below order. stretch-extreme (s .readings) w (s .closed) n some-reading (le-refl n) tiled below order o;
+      extremes = λ below order. stretch-aggregate (s .readings) w (s .closed) n some-reading (le-refl n) tiled (greater below) (pos 0) (greater-assoc below order);
     }
 
 pub due-from-partials : (s : State) → Invariant s → DueFromPartials s

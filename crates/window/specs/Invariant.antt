@@ -1,21 +1,19 @@
 -- What holds of the reference model after every list of calls from a start. `proofs/Preserved.antt` proves the
 -- invariant, `proofs/Bounds.antt` the bounds.
 -- Assumes nothing.
-use Prim.Native.Nat.{ℕ, _+_, _*_, _-_, _≤_, _<_, min}
+use Prim.Native.Nat.{ℕ, _+_, _≤_, _<_}
 use mathlib.Core.Path.{_≡_}
 use mathlib.Core.Bool.{Bool, true, false, _||_}
 use mathlib.Core.Option.{Option, none, some}
 use mathlib.Core.List.{List, [], _∷_, map}
 use lib.Dec.{eqb}
-use lib.IntN.{ℤ, pos}
-use lib.Signed.{leZ}
+use lib.IntN.{ℤ}
 use lib.ListN.{length}
 use Rattle.window.specs.declared.query.Query.{Query}
 use Rattle.window.specs.Lists.{Each}
-use Rattle.window.specs.Orders.{Order, geZ, sum, extreme}
+use Rattle.window.specs.Orders.{Order, sum, extreme}
 use Rattle.window.specs.Queries.{Limits, lengthLimit, queryLimit, countLimit, due, edge, windowStart, windowCount, horizon}
 use Rattle.window.specs.Partials.{Partial, Entry, entries, partialsFrom, entriesFrom, valueOf}
-use Rattle.window.specs.Standing.{standing, frontOf}
 use Rattle.window.specs.Refusals.{isRegistered, damaged}
 use Rattle.window.specs.Model.{State, count, window}
 
@@ -64,40 +62,36 @@ abbrev pub Shape : Option ℕ → ℕ → List Query → List Partial → Type 0
 Shape none n qs ps = (qs ≡ []) × Ordered 0 ps n
 Shape (some a) n qs ps = (a ≤ n) × Ordered 0 ps a × (1 ≤ length qs) × Each (Tracked n ps a) qs
 
--- ---- the comparisons made
-
--- the amortized bound, with the partials that stand of all closed ones as the potential. With P partials closed, m
--- comparisons made and S partials standing: m + S is at most 2 P - 1, and 0 where P is 0; S is at least 1 where P is
-pub record Amortized (below : ℤ → ℤ → Bool) (m : ℕ) (readings : List ℤ) (ps : List Partial) : Type 0 where
-  pub bound : m + length (standing below (entries (extreme below) readings ps)) + min (length ps) 1 ≤ 2 * length ps
-  pub someStand : min (length ps) 1 ≤ length (standing below (entries (extreme below) readings ps))
-
 -- ---- the whole
 
 -- what does not depend on the open partial
-pub record WithinLimits (s : State) : Type 0 where
+pub record WithinLimitsAt (limit : ℕ) (s : State) : Type 0 where
   pub few : length (s .queries) ≤ queryLimit
   pub distinct : Distinct (s .queries)
   pub limits : Each Limits (s .queries)
-  pub counted : count s ≤ countLimit
+  pub counted : count s ≤ limit
   pub short : Each Short (s .closed)
-  pub maxAmortized : Amortized leZ (s .maxComparisons) (s .readings) (s .closed)
-  pub minAmortized : Amortized geZ (s .minComparisons) (s .readings) (s .closed)
 
-pub record Invariant (s : State) : Type 0 where
+pub record InvariantAt (limit : ℕ) (s : State) : Type 0 where
   pub shape : Shape (s .openStart) (count s) (s .queries) (s .closed)
-  pub withinLimits : WithinLimits s
+  pub withinLimits : WithinLimitsAt limit s
+
+-- with the limit of this form
+abbrev pub WithinLimits : State → Type 0
+WithinLimits s = WithinLimitsAt countLimit s
+
+abbrev pub Invariant : State → Type 0
+Invariant s = InvariantAt countLimit s
 
 -- ---- what follows from it for windows
 
 -- the window of q at n, from the closed partials that start at its window start or later: its count by the numbers
--- alone, its sum as the sum of their sums, and its extreme, by every order, as the value of the first of them that
--- stands
+-- alone, its sum as the sum of their sums, and its extreme, by every order, as that of their extremes
 pub record FromPartials (s : State) (q : Query) : Type 0 where
   pub counts : length (window (s .readings) q) ≡ windowCount (count s) q
   pub sums : sum (window (s .readings) q) ≡ sum (map valueOf (entriesFrom (windowStart (count s) q) (entries sum (s .readings) (s .closed))))
   pub extremes : (below : ℤ → ℤ → Bool) → Order below
-      → extreme below (window (s .readings) q) ≡ frontOf (pos 0) (entriesFrom (windowStart (count s) q) (standing below (entries (extreme below) (s .readings) (s .closed))))
+      → extreme below (window (s .readings) q) ≡ extreme below (map valueOf (entriesFrom (windowStart (count s) q) (entries (extreme below) (s .readings) (s .closed))))
 
 -- of every registered query that is due
 abbrev pub DueFromPartials : State → Type 0
@@ -106,9 +100,6 @@ DueFromPartials s = Each (λ (q : Query). due (count s) q ≡ true → FromParti
 -- ---- the bounds that follow from it
 
 pub record Bounded (s : State) : Type 0 where
-  -- M and N are at most 2 P - 2, which is 0 where P is 0
-  pub maxima : s .maxComparisons ≤ 2 * length (s .closed) - 2
-  pub minima : s .minComparisons ≤ 2 * length (s .closed) - 2
   -- P is at most n
   pub closedCount : length (s .closed) ≤ count s
   -- at most 4,096 closed partials are live

@@ -13,10 +13,10 @@ use Rattle.window.specs.declared.refusal.Verdict.{Verdict}
 use Rattle.window.specs.declared.refusal.Verdict.the-variants.{Passed, Refused}
 use Rattle.window.specs.Lists.{filter, any}
 use Rattle.window.specs.Orders.{geZ, sum, extreme, maximum, minimum}
-use Rattle.window.specs.Queries.{sumKind, countKind, maximumKind, edge, windowStart, horizon}
+use Rattle.window.specs.Queries.{countLimit, sumKind, countKind, maximumKind, edge, windowStart, horizon}
 use Rattle.window.specs.Partials.{Partial, spanning, Entry, between, entry, entries, partialsFrom}
 use Rattle.window.specs.Standing.{standing, comparisons}
-use Rattle.window.specs.Refusals.{refusalNumber, firstRefusal, registerChecks, withdrawChecks, readingChecks, hasNumber, dueAt}
+use Rattle.window.specs.Refusals.{refusalNumber, firstRefusal, registerChecks, withdrawChecks, readingChecksAt, hasNumber, dueAt}
 use Rattle.window.specs.Calls.{Call, start, register, withdraw, reading, totals, Answer, Outcome, accepted, refused}
 
 -- ---- the state
@@ -175,16 +175,20 @@ newQuery s number kind range slide =
     record { number = number; kind = kind; range = range; slide = slide; origin = count s }
 
 -- one call: the checks of its kind are judged on the state and the call, then it is done
-unfoldable pub step : State → Call → Stepped
-step s start = done initial
-step s (register number kind range slide) =
+unfoldable pub stepAt : ℕ → State → Call → Stepped
+stepAt limit s start = done initial
+stepAt limit s (register number kind range slide) =
     judged (firstRefusal (registerChecks (s .queries) number kind range slide)) s
     (done (afterRegister s (newQuery s number kind range slide)))
-step s (withdraw number) =
+stepAt limit s (withdraw number) =
     judged (firstRefusal (withdrawChecks (s .queries) number)) s (done (afterWithdraw s number))
-step s (reading v places) =
-    judged (firstRefusal (readingChecks (count s) (s .queries) places)) s (answered (afterReading s v))
-step s totals = totalsOf s
+stepAt limit s (reading v places) =
+    judged (firstRefusal (readingChecksAt limit (count s) (s .queries) places)) s (answered (afterReading s v))
+stepAt limit s totals = totalsOf s
+
+-- with the limit of this form
+abbrev pub step : State → Call → Stepped
+step s c = stepAt countLimit s c
 
 -- ---- a list of calls
 
@@ -198,9 +202,13 @@ abbrev pub followedBy : Outcome → Ran → Ran
 followedBy o r = record { outcomes = o ∷ r .outcomes; state = r .state }
 
 -- a list of calls, each on the state that the call before left
+abbrev pub runAt : ℕ → State → List Call → Ran
+runAt limit s [] = record { outcomes = []; state = s }
+runAt limit s (c ∷ cs) = followedBy ((stepAt limit s c) .outcome) (runAt limit ((stepAt limit s c) .state) cs)
+
+-- with the limit of this form
 abbrev pub run : State → List Call → Ran
-run s [] = record { outcomes = []; state = s }
-run s (c ∷ cs) = followedBy ((step s c) .outcome) (run ((step s c) .state) cs)
+run s cs = runAt countLimit s cs
 
 -- the state after a list of calls on a fresh model
 abbrev pub reached : List Call → State

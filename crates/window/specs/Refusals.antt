@@ -62,14 +62,19 @@ hasNumber number q = eqb number (q .number)
 abbrev pub isRegistered : ℕ → List Query → Bool
 isRegistered number qs = any (hasNumber number) qs
 
+-- register, number and kind: 3 and 4
+unfoldable pub nameChecks : (number kind : ℕ) → List Check
+nameChecks number kind =
+    check (not (within 1 numberLimit number)) NumberOutside ∷ check (not (within 1 kindLimit kind)) KindOutside ∷ []
+
+-- register, range and slide: 5 and 6
+unfoldable pub lengthChecks : (range slide : ℕ) → List Check
+lengthChecks range slide =
+    check (not (within 1 lengthLimit range)) RangeOutside ∷ check (not (within 1 lengthLimit slide)) SlideOutside ∷ []
+
 -- register, fields: 3 to 6
 unfoldable pub fieldChecks : (number kind range slide : ℕ) → List Check
-fieldChecks number kind range slide =
-    check (not (within 1 numberLimit number)) NumberOutside
-    ∷ check (not (within 1 kindLimit kind)) KindOutside
-    ∷ check (not (within 1 lengthLimit range)) RangeOutside
-    ∷ check (not (within 1 lengthLimit slide)) SlideOutside
-    ∷ []
+fieldChecks number kind range slide = nameChecks number kind ++ lengthChecks range slide
 
 -- register, list: 7 and 8
 unfoldable pub listChecks : List Query → ℕ → List Check
@@ -91,12 +96,21 @@ dueAt n qs = filter (due n) qs
 abbrev pub answerPlaces : ℕ
 answerPlaces = 4
 
--- reading, count: 10; reading, answer table: 11
-unfoldable pub readingChecks : ℕ → List Query → ℕ → List Check
-readingChecks n qs places =
-    check (leb countLimit n) CountExhausted
-    ∷ check (ltb places (answerPlaces * length (dueAt (n + 1) qs))) AnswersTooShort
-    ∷ []
+-- reading, count: 10
+unfoldable pub countChecks : (limit n : ℕ) → List Check
+countChecks limit n = check (leb limit n) CountExhausted ∷ []
+
+-- reading, answer table: 11
+unfoldable pub placesChecks : ℕ → List Query → ℕ → List Check
+placesChecks n qs places = check (ltb places (answerPlaces * length (dueAt (n + 1) qs))) AnswersTooShort ∷ []
+
+-- reading: 10 and 11
+unfoldable pub readingChecksAt : (limit n : ℕ) → List Query → ℕ → List Check
+readingChecksAt limit n qs places = countChecks limit n ++ placesChecks n qs places
+
+-- with the limit of this form
+abbrev pub readingChecks : ℕ → List Query → ℕ → List Check
+readingChecks n qs places = readingChecksAt countLimit n qs places
 
 -- ---- the part of refusal 2 that is always given
 

@@ -2,6 +2,9 @@
 ghost use mathlib.Core.Path.{_≡_};
 ghost use Prim.Native.Nat.{_≤_};
 ghost use Rattle.window.specs.Queries.{Limits, phase, due, edge, windowStart, windowCount};
+use crate::count::Count;
+use crate::count::count_of;
+use crate::count::narrow;
 
 // The greatest query number, the number of kinds, and the greatest range and slide.
 pub const NUMBER_LIMIT: u32 = 65_535;
@@ -9,9 +12,6 @@ pub const NUMBER_LIMIT: u32 = 65_535;
 pub const KIND_LIMIT: u32 = 4;
 
 pub const LENGTH_LIMIT: u32 = 4_096;
-
-// A count of readings since the start: document 01's n, and every place that is measured by it.
-pub type Count = u32;
 
 pub struct Query {
     // Chosen by the caller, 1 to 65,535.
@@ -43,7 +43,7 @@ impl Query {
         if n <= self.origin {
             return false;
         }
-        self.phase(n) % self.slide == 0
+        self.phase(n) % count_of(self.slide) == 0
     }
 
     // Whether a window of the query can end or begin at m (document 01: the query cuts at m). The phase is reduced
@@ -55,21 +55,23 @@ impl Query {
         if m <= self.origin {
             return false;
         }
-        let rest = self.phase(m) % self.slide;
+        let slide = count_of(self.slide);
+        let rest = self.phase(m) % slide;
         if rest == 0 {
             return true;
         }
-        (rest + self.range) % self.slide == 0
+        (rest + count_of(self.range)) % slide == 0
     }
 
     // The window at n holds the readings after this place.
     pub fn window_start(self, n: Count) -> Count
         ensures { λ r. ⌜ r ≡ windowStart n self ⌝ }
     {
-        if n <= self.range {
+        let range = count_of(self.range);
+        if n <= range {
             return self.origin;
         }
-        let back = n - self.range;
+        let back = n - range;
         if back <= self.origin {
             self.origin
         } else {
@@ -77,11 +79,16 @@ impl Query {
         }
     }
 
-    // How many readings the window at n holds.
-    pub fn window_count(self, n: Count) -> Count
+    // How many readings the window at n holds: a number of 32 bits, whatever the width of a count.
+    pub fn window_count(self, n: Count) -> u32
         requires { ⌜ self .origin ≤ n ⌝ }
         ensures { λ r. ⌜ r ≡ windowCount n self ⌝ }
     {
-        n - self.window_start(n)
+        let since = n - self.origin;
+        if since < count_of(self.range) {
+            narrow(since)
+        } else {
+            self.range
+        }
     }
 }

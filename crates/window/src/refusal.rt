@@ -1,7 +1,7 @@
 // The refusals of document 01, "The calls and where each refuses", by name and number, and the checks of a
 // registration's fields.
 ghost use mathlib.Core.Path.{_≡_};
-ghost use Rattle.window.specs.Refusals.{refusalNumber, firstRefusal, fieldChecks, within};
+ghost use Rattle.window.specs.Refusals.{refusalNumber, firstRefusal, nameChecks, lengthChecks, fieldChecks, within};
 use crate::query::KIND_LIMIT;
 use crate::query::LENGTH_LIMIT;
 use crate::query::NUMBER_LIMIT;
@@ -65,9 +65,9 @@ fn within(low: u32, high: u32, x: u32) -> bool
     x <= high
 }
 
-// Checks 3 to 6, in this order: a registration's number, kind, range and slide are within their limits.
-pub fn check_fields(number: u32, kind: u32, range: u32, slide: u32) -> Verdict
-    ensures { λ r. ⌜ r ≡ firstRefusal (fieldChecks number kind range slide) ⌝ }
+// Checks 3 and 4, in this order: a registration's number and kind are within their limits.
+pub fn check_name(number: u32, kind: u32) -> Verdict
+    ensures { λ r. ⌜ r ≡ firstRefusal (nameChecks number kind) ⌝ }
 {
     if !within(1, NUMBER_LIMIT, number) {
         return Verdict::Refused(Refusal::NumberOutside);
@@ -75,6 +75,13 @@ pub fn check_fields(number: u32, kind: u32, range: u32, slide: u32) -> Verdict
     if !within(1, KIND_LIMIT, kind) {
         return Verdict::Refused(Refusal::KindOutside);
     }
+    Verdict::Passed
+}
+
+// Checks 5 and 6, in this order: a registration's range and slide are within their limits.
+pub fn check_lengths(range: u32, slide: u32) -> Verdict
+    ensures { λ r. ⌜ r ≡ firstRefusal (lengthChecks range slide) ⌝ }
+{
     if !within(1, LENGTH_LIMIT, range) {
         return Verdict::Refused(Refusal::RangeOutside);
     }
@@ -82,4 +89,17 @@ pub fn check_fields(number: u32, kind: u32, range: u32, slide: u32) -> Verdict
         return Verdict::Refused(Refusal::SlideOutside);
     }
     Verdict::Passed
+}
+
+// Checks 3 to 6, in this order.
+pub fn check_fields(number: u32, kind: u32, range: u32, slide: u32) -> Verdict
+    ensures { λ r. ⌜ r ≡ firstRefusal (fieldChecks number kind range slide) ⌝ }
+{
+    match check_name(number, kind) {
+        Verdict::Refused(refusal) => {
+            return Verdict::Refused(refusal);
+        }
+        Verdict::Passed => {}
+    }
+    check_lengths(range, slide)
 }

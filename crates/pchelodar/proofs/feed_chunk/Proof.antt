@@ -6,8 +6,8 @@ use mathlib.Core.Path.{_≡_, refl, ap, _∙_}
 use lib.ListN.{length, length-take}
 use lib.Seq.{slice}
 use borrow.Author.Needs.{needs}
-use Rattle.engine.specs.Tables.{tables, TablesKept}
-use Rattle.engine.proofs.Keeping.{tables-same, tables-then}
+use Rattle.board.specs.Tables.{tables, TablesKept}
+use Rattle.board.proofs.Lending.{tables-same, tables-then}
 use Rattle.session.specs.Contracts.{held}
 use Rattle.session.specs.Whole.{Carries}
 use Rattle.session.proofs.Composing.{carries-none, carries-next, carries-all, limit-stopped}

@@ -3,7 +3,7 @@
 use native.Mathlib.Omega.{arith}
 use mathlib.Core.Path.{refl}
 use borrow.Author.Needs.{needs}
-use Rattle.engine.specs.Tables.{enough}
+use Rattle.board.specs.Tables.{enough}
 use Rattle.pchelodar.proofs.main.Statement.{statement}
 use Rattle.pchelodar.proofs.main.Tie as tie
 

@@ -4,7 +4,7 @@ use native.Mathlib.Omega.{arith}
 use mathlib.Core.Path.{_≡_, refl, _∙_}
 use lib.ListN.{length}
 use borrow.Author.Needs.{needs}
-use Rattle.engine.specs.Tables.{tables}
+use Rattle.board.specs.Tables.{tables}
 use Rattle.session.specs.Contracts.{held}
 use Prim.Native.Nat.{ℕ, _-_, _≤_}
 use Rattle.pchelodar.specs.Contracts.{ReadsFed}

@@ -17,11 +17,12 @@ use Rattle.window.proofs.Refusals.{Counts, reading-passed}
 use Rattle.registry.specs.Records.{recordLimit, used}
 use Rattle.registry.proofs.Intact.{intact-few, intact-limits, intact-origins}
 use Rattle.engine.specs.Machine.{Machine, machine}
-use Rattle.engine.specs.Tables.{tables}
+use Rattle.board.specs.Tables.{tables}
 use Rattle.engine.specs.States.{withReading}
 use Rattle.engine.specs.Closings.{Ready}
 use Rattle.engine.proofs.Taking.{taken-ready, taken-count, taken-origins, taken-closed, Left, open-left, due-fit}
-use Rattle.engine.proofs.Accepting.{Passes, all-pass, uncut-taken, accepted-reading}
+use Rattle.engine.specs.Contracts.{Passes}
+use Rattle.engine.proofs.Accepting.{all-pass, uncut-taken, accepted-reading}
 use Rattle.engine.proofs.Keeping.{closed-long}
 use Rattle.engine.proofs.Closings.{closed-there, closed-at}
 use Rattle.engine.proofs.Refusing.{refused-reading}
@@ -169,9 +170,7 @@ answer-due-requires c κs =
     let e = w .before in
     let a = begun e .args in
     let l = left d in (
-      l .sums,
-      l .maxRing,
-      l .minRing,
+      l .usable,
       few e,
       limits e,
       subst (λ (k : ℕ). Each (λ (q : Query). q .origin ≤ k) (used (a .queries))) (sym (l .count)) (origins-taken w),

@@ -8,10 +8,11 @@ use Rattle.registry.specs.Records.{used}
 use Rattle.registry.proofs.Intact.{intact-few, intact-origins, used-count}
 use Rattle.registry.proofs.Scans.{mapped-length}
 use Rattle.engine.specs.Machine.{Machine, machine}
-use Rattle.engine.specs.Tables.{tables}
+use Rattle.board.specs.Tables.{tables}
 use Rattle.engine.proofs.Closings.{closed-at}
 use Rattle.engine.proofs.Soundness.{sound-ready}
-use Rattle.engine.proofs.Accepting.{Passes, all-pass, joining, accepted-register}
+use Rattle.engine.specs.Contracts.{Passes}
+use Rattle.engine.proofs.Accepting.{all-pass, joining, accepted-register}
 use Rattle.engine.proofs.Refusing.{refused-reply}
 use Rattle.engine.proofs.calls.register.Statement.{statement}
 use Rattle.engine.proofs.calls.register.Tie as tie

@@ -29,7 +29,7 @@ enum-told c = search needs
 
 returns-2 : tie.Need-returns-2
 returns-2 c =
-    let p = c .before .before in
+    let p = c .before .before .before in
     let j = p .before .before in
     accepted-totals _ (all-pass calls.totals _ _ _ (j .before .before .enough .ensures) (j .judge .ensures _ (j .before .damaged .ensures)) (p .enum-told .given .1))
 

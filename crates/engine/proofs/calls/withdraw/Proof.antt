@@ -8,8 +8,9 @@ use Rattle.registry.specs.Records.{used}
 use Rattle.registry.proofs.Intact.{intact-few, used-count}
 use Rattle.registry.proofs.Scans.{mapped-length}
 use Rattle.engine.specs.Machine.{Machine, machine}
-use Rattle.engine.specs.Tables.{tables}
-use Rattle.engine.proofs.Accepting.{Passes, all-pass, accepted-withdraw}
+use Rattle.board.specs.Tables.{tables}
+use Rattle.engine.specs.Contracts.{Passes}
+use Rattle.engine.proofs.Accepting.{all-pass, accepted-withdraw}
 use Rattle.engine.proofs.Refusing.{refused-reply}
 use Rattle.engine.proofs.calls.withdraw.Statement.{statement}
 use Rattle.engine.proofs.calls.withdraw.Tie as tie

@@ -44,7 +44,7 @@ use Rattle.records.proofs.Rows.{Q, L, l-vals, l-lawful, l-makes}
 use Rattle.records.proofs.Plain.{seen}
 use Rattle.records.proofs.Steps.{Load, calls-load-shr}
 use Rattle.lent.proofs.Rows.{Engine-row, Engine-vals, Engine-tells, Engine-lawful, Engine-makes, ReadingReply-row, ReadingReply-ty, ReadingReply-vals, ReadingReply-tells, ReadingReply-lawful, ReadingReply-makes}
-use Rattle.engine.specs.Tables.{tables}
+use Rattle.board.specs.Tables.{tables}
 use Rattle.engine.specs.Outcomes.{readingOutcome}
 use Rattle.engine.specs.Contracts.{ReadingEnsures, placesAfter}
 use Rattle.lent.specs.Lent.{lent}

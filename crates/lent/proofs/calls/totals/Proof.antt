@@ -44,7 +44,7 @@ use Rattle.records.proofs.Plain.{seen}
 use Rattle.records.proofs.Steps.{Load, calls-load-shr}
 use Rattle.lent.proofs.Rows.{Engine-row, Engine-vals, Engine-tells, Engine-lawful, Engine-makes, TotalsReply-row, TotalsReply-ty, TotalsReply-vals, TotalsReply-tells, TotalsReply-lawful, TotalsReply-makes}
 use Rattle.window.specs.Calls.{totals}
-use Rattle.engine.specs.Tables.{tables}
+use Rattle.board.specs.Tables.{tables}
 use Rattle.engine.specs.Outcomes.{totalsOutcome}
 use Rattle.engine.specs.Contracts.{Ensures}
 use Rattle.lent.specs.Lent.{lent}

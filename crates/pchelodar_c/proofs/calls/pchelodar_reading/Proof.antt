@@ -1,22 +1,22 @@
 -- `pchelodar_reading` meets its contract: there is no room, or the engine's call is made on what the numbers are read
 -- as. Assumes nothing.
-use mathlib.Core.Path.{_≡_, sym, ap, _∙_}
+use mathlib.Core.Path.{_≡_, sym, _∙_}
 use mathlib.Core.Bool.{true, false}
 use borrow.Author.Needs.{needs}
 use lib.ListN.{length}
 use mir.Facts.{toZ-ofZ}
-use Rattle.pchelodar_c.specs.Written.{stateOf, registeredIn}
-use Rattle.pchelodar_c.specs.Slices.{roomFor}
-use Rattle.pchelodar_c.proofs.Calling.{room-state, room-list, not-true, not-false, no-room-reading, reading-made-of}
+use Rattle.encoding.specs.Written.{roomFor}
+use Rattle.encoding.proofs.Places.{room-state, room-list}
+use Rattle.pchelodar_c.proofs.Calling.{not-true, not-false, no-room-reading, reading-made-of}
 use Rattle.pchelodar_c.proofs.calls.pchelodar_reading.Statement.{statement}
 use Rattle.pchelodar_c.proofs.calls.pchelodar_reading.Tie as tie
 
 -- the place after the engine's call, and that after there was found room
-abbrev called : tie.After-put-reading-back-arg → tie.After-reading
-called c = c .before .before .before .before .before .before .before .before .before .before .before
+abbrev called : tie.After-put-reading-back-arg2 → tie.After-reading
+called c = c .before .before .before .before .before .before .before .before .before .before .before .before
 
 abbrev taken : tie.After-reading → tie.Else1
-taken c = c .before .before .before .before .before .before .before .before .before .before .before .before .before
+taken c = c .before .before .before .before .before .before .before .before .before .before .before .before
 
 -- there is room, or there is not
 room : (e : tie.Else1) → roomFor (length (e .before .before .before .before .before .before .before .args .state .now)) (length (e .before .before .before .before .before .before .before .args .queries .now)) ≡ true
@@ -28,29 +28,23 @@ no-room-there e = sym (e .before .room-for .ensures) ∙ not-true _ (e .if1 .tak
 room-for-requires : tie.Need-room-for-requires
 room-for-requires c κs = search needs
 
-number-requires : tie.Need-number-requires
-number-requires c κs = search needs
+no-room-requires : tie.Need-no-room-requires
+no-room-requires c κs = search needs
 
 returns : tie.Need-returns
-returns c = rw (c .number .ensures) (no-room-reading _ _ _ _ _ _ (no-room-there (c .before)))
+returns c = rw (c .no-room .ensures) (no-room-reading _ _ _ _ _ _ (no-room-there (c .before)))
 
-load-numbers-requires : tie.Need-load-numbers-requires
-load-numbers-requires c κs = room-state _ _ (room (c .before))
+load-state-requires : tie.Need-load-state-requires
+load-state-requires c κs = room-state _ _ (room (c .before))
 
-registered-in-requires : tie.Need-registered-in-requires
-registered-in-requires c κs = search needs
-
-state-of-requires : tie.Need-state-of-requires
-state-of-requires c κs = search needs
-
-list-of-requires : tie.Need-list-of-requires
-list-of-requires c κs = room-list _ _ (room (c .before .before .before .before))
+load-list-requires : tie.Need-load-list-requires
+load-list-requires c κs = let e = c .before .before .before in (room-list _ _ (room e), room-state _ _ (room e))
 
 reading-requires : tie.Need-reading-requires
 reading-requires c κs = search needs
 
 put-reading-back-requires : tie.Need-put-reading-back-requires
-put-reading-back-requires c κs = room-state _ _ (room (taken (called (c .before))))
+put-reading-back-requires c κs = room-state _ _ (room (taken (called c)))
 
 same-length : tie.Need-same-length
 same-length c = search needs
@@ -79,25 +73,21 @@ same-length-8 c = search needs
 returns-2 : tie.Need-returns-2
 returns-2 c =
     let p = c .before .before in
-    let d = called (p .before .before) in
+    let d = called (p .before) in
     let e = taken d in
     let l = d .before .before .before .before .before .before .before .before in
-    let s = l .before in
-    let r = s .before in
-    let w = r .before .load-numbers .ensures in
-    reading-made-of (toZ-ofZ (e .before .before .before .before .before .before .before .fits .value)) (room e) (r .registered-in .ensures ∙ ap registeredIn w) (s .state-of .ensures ∙ ap stateOf w) (l .list-of .ensures) (d .reading .ensures) (p .put-reading-back .ensures)
+    let s = l .before .before in
+    reading-made-of (toZ-ofZ (e .before .before .before .before .before .before .before .fits .value)) (room e) (s .load-state .ensures) (l .load-list .ensures) (d .reading .ensures) (p .put-reading-back .ensures)
 
 pub pchelodar-reading-spec : {M : Type 1} → statement M
 pchelodar-reading-spec =
     tie.close
     (tie.spec
     room-for-requires
-    number-requires
+    no-room-requires
     returns
-    load-numbers-requires
-    registered-in-requires
-    state-of-requires
-    list-of-requires
+    load-state-requires
+    load-list-requires
     reading-requires
     put-reading-back-requires
     same-length

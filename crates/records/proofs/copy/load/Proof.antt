@@ -51,7 +51,7 @@ use borrow.Author.Tests.{ltb-true, ltb-false}
 use Rattle.window.specs.declared.query.Query.{Query}
 use Rattle.registry.specs.Records.{recordLimit, unused}
 use Rattle.records.specs.LentList.{padded, firstRecords}
-use Rattle.records.proofs.Counting.{below-left, below-right, offset-fits, next-fits, falls, at-end}
+use Rattle.records.proofs.Counting.{recordSize, below-left, below-right, offset-fits, next-fits, falls, at-end}
 use Rattle.records.proofs.Lists.{padded-none, padded-length, padded-step, first-all}
 use Rattle.records.proofs.Local.{local-out, local-in}
 use Rattle.records.proofs.Plain.{calls-plain, plain-post}
@@ -165,7 +165,7 @@ module _ {M : Type 1} (𝓤 : URA M) (H : Heap 𝓤) (A : Atoms 𝓤) (W : Given
           rewrite ! 16 (λ (t : Bool). ‵ (fat fullShare tyBool l₈ 0 (vbool t))) e refl $ stays ! (load ! (from ! (stop !)) (look ! 16 refl)) $
           assigns ! (bin ! (load ! (from ! (stop !)) (look ! 24 refl)) (lit ! tt) (record { fits = offset-fits i n inside (gn .1) })) (from ! (stop !)) (init ! 14 refl (tt, record { fits = offset-fits i n inside (gn .1) })) $
           assigns ! (bin ! (load ! (from ! (fld ! refl (stop !))) (look-in ! 29 (sub ! 0 refl (whole !)))) (load ! (from ! (stop !)) (look ! 14 refl)) tt) (from ! (stop !)) (init ! 12 refl (tt, tt)) $
-          rewrite ! 12 (λ (p : ℕ). ‵ (fat fullShare tyPtr l₁₀ 0 (vptr b p))) (sym (place-is 20 o i)) refl $
+          rewrite ! 12 (λ (p : ℕ). ‵ (fat fullShare tyPtr l₁₀ 0 (vptr b p))) (sym (place-is recordSize o i)) refl $
           elem-out ! Q (Is Q) (shows 𝓤 H A Q) q-vals q-tells q′ ys i unused b o inside (λ g.
           -- [queries[i]; what it owns; the others; the local's row; the open borrow; …]: two more in front
           assigns ! (of-opd ! (load ! (from ! (hop ! (look ! 14 refl) (stop !))) (look-raw ! 0 refl))) (from ! (stop !)) (init ! 12 refl (q-lawful 𝓤 H A W .typed (getD ys i unused) _ g .0)) $
@@ -174,7 +174,7 @@ module _ {M : Type 1} (𝓤 : URA M) (H : Heap 𝓤) (A : Atoms 𝓤) (W : Given
           assigns ! (bin ! (load ! (from ! (stop !)) (look ! 24 refl)) (lit ! tt) (record { fits = offset-fits i n inside (gn .1) })) (from ! (stop !)) (store ! 14 refl (tt, record { fits = offset-fits i n inside (gn .1) })) $
           assigns ! (addr ! (from ! (stop !))) (from ! (stop !)) (init ! 8 refl (tt, tt)) $
           assigns ! (bin ! (load ! (from ! (stop !)) (look ! 8 refl)) (load ! (from ! (stop !)) (look ! 14 refl)) tt) (from ! (stop !)) (init ! 6 refl (tt, tt)) $
-          rewrite ! 6 (λ (p : ℕ). ‵ (fat fullShare tyPtr l₁₃ 0 (vptr l₃ p))) (sym (place-is 20 0 i)) refl $ move ! (1 ∷ []) $
+          rewrite ! 6 (λ (p : ℕ). ‵ (fat fullShare tyPtr l₁₃ 0 (vptr l₃ p))) (sym (place-is recordSize 0 i)) refl $ move ! (1 ∷ []) $
           elem-out ! Q (Is Q) (shows 𝓤 H A Q) q-vals q-tells fullShare (copied i) i unused l₃ 0 within (λ _.
           -- [list[i]; what it owns; the others; the slice's row; the open borrow; …]: two more in front
           assigns ! (of-opd ! (load ! (from ! (stop !)) (look ! 24 refl))) (from ! (hop ! (look ! 8 refl) (stop !))) (store-raw ! 0 refl (q-lawful 𝓤 H A W .typed (getD ys i unused) _ g .0)) $

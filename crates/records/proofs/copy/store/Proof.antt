@@ -53,7 +53,7 @@ use borrow.Author.Tests.{ltb-true, ltb-false}
 use Rattle.window.specs.declared.query.Query.{Query}
 use Rattle.registry.specs.Records.{recordLimit, unused}
 use Rattle.records.specs.LentList.{overwritten}
-use Rattle.records.proofs.Counting.{below-left, below-right, offset-fits, next-fits, falls, at-end}
+use Rattle.records.proofs.Counting.{recordSize, below-left, below-right, offset-fits, next-fits, falls, at-end}
 use Rattle.records.proofs.Lists.{overwritten-none, overwritten-length, overwritten-step, overwritten-all}
 use Rattle.records.proofs.Plain.{calls-plain, plain-post}
 use Rattle.records.proofs.Rows.{Q, L, q-ty, l-ty, q-vals, l-vals, l-val, q-tells, l-tells, q-lawful, l-lawful, q-makes, l-makes}
@@ -190,7 +190,7 @@ module _ {M : Type 1} (𝓤 : URA M) (H : Heap 𝓤) (A : Atoms 𝓤) (W : Given
           land ! (from ! (stop !)) (init ! 12 refl (q-lawful 𝓤 H A W .typed r _ is .0)) $
           assigns ! (bin ! (load ! (from ! (stop !)) (look ! 14 refl)) (lit ! tt) (record { fits = offset-fits i n inside (gn .1) })) (from ! (stop !)) (init ! 6 refl (tt, record { fits = offset-fits i n inside (gn .1) })) $
           assigns ! (bin ! (load ! (from ! (fld ! refl (stop !))) (look-in ! 22 (sub ! 0 refl (whole !)))) (load ! (from ! (stop !)) (look ! 6 refl)) tt) (from ! (stop !)) (init ! 4 refl (tt, tt)) $
-          rewrite ! 4 (λ (p : ℕ). ‵ (fat fullShare tyPtr l₁₀ 0 (vptr b p))) (sym (place-is 20 o i)) refl $
+          rewrite ! 4 (λ (p : ℕ). ‵ (fat fullShare tyPtr l₁₀ 0 (vptr b p))) (sym (place-is recordSize o i)) refl $
           elem-out ! Q (Is Q) (shows 𝓤 H A Q) q-vals q-tells fullShare (written i) i unused b o within (λ _.
           -- [queries[i]; what it owns; the others; the open borrow; obs; auth; _9; …]: two more in front
           assigns ! (of-opd ! (load ! (from ! (stop !)) (look ! 14 refl))) (from ! (hop ! (look ! 6 refl) (stop !))) (store-raw ! 0 refl (q-lawful 𝓤 H A W .typed r _ is .0)) $

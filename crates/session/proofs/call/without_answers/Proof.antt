@@ -1,22 +1,20 @@
--- `without_answers` meets its contract: case by case. Assumes nothing.
-use Rattle.session.specs.Contracts.{noAnswers}
-use Rattle.window.specs.declared.refusal.Verdict.{Verdict}
-use mathlib.Core.Path.{sym, ap}
+-- `without_answers` meets its contract: no answers, and what the reply holds. Assumes nothing.
+use mathlib.Core.Path.{ap, _∙_}
 use borrow.Author.Needs.{needs}
+use Rattle.engine.specs.declared.calls.Answered.{Answered}
 use Rattle.session.proofs.call.without_answers.Statement.{statement}
 use Rattle.session.proofs.call.without_answers.Tie as tie
 
-enum-told : tie.Need-enum-told
-enum-told c = search needs
+no-answers-requires : tie.Need-no-answers-requires
+no-answers-requires c κs = search needs
 
-enum-known-verdict : tie.Need-enum-known-verdict
-enum-known-verdict c = search needs
+came-to-requires : tie.Need-came-to-requires
+came-to-requires c κs = search needs
 
 returns : tie.Need-returns
-returns c = sym (ap (λ (v : Verdict). record { outcome = noAnswers v; state = c .before .before .before .before .args .reply .state; queries = c .before .before .before .before .args .reply .queries }) (c .enum-told .given .1))
-
-returns-2 : tie.Need-returns-2
-returns-2 c = sym (ap (λ (v : Verdict). record { outcome = noAnswers v; state = c .before .before .before .before .before .args .reply .state; queries = c .before .before .before .before .before .args .reply .queries }) (c .before .verdict .given .1))
+returns c =
+    let reply = c .before .before .args .reply in
+    c .came-to .ensures ∙ ap (λ (o : Answered). record { outcome = o; state = reply .state; queries = reply .queries }) (c .before .no-answers .ensures)
 
 pub without-answers-spec : {M : Type 1} → statement M
-without-answers-spec = tie.close (tie.spec enum-told enum-known-verdict returns returns-2)
+without-answers-spec = tie.close (tie.spec no-answers-requires came-to-requires returns)

@@ -1,68 +1,132 @@
--- `feed` meets its contract: nothing where the engine refuses every call, and else one line after the other. Assumes
--- nothing.
-use Rattle.session.proofs.Refusing.{not-fed, fed-lines}
+-- `feed` meets its contract: nothing where the engine refuses every call, and else one line after the other. What was
+-- taken so far is the session's bytes; the measure is how many bytes are left. Assumes nothing.
+use mathlib.Core.Path.{refl, sym, _∙_}
+use Prim.Native.Nat.{_-_}
+use native.Mathlib.Omega.{arith}
+use lib.ListN.{length}
 use borrow.Author.Needs.{needs}
+use Rattle.board.specs.Tables.{tables}
+use Rattle.session.specs.Contracts.{held}
+use Rattle.session.proofs.Feeding.{Inside, streams-none, streams-next}
+use Rattle.session.proofs.Refusing.{not-fed, fed-lines}
+use Rattle.session.proofs.Finishing.{goes-on, stopped}
 use Rattle.session.proofs.stream.feed.Statement.{statement}
 use Rattle.session.proofs.stream.feed.Tie as tie
 
-refuses-requires : tie.Need-refuses-requires
+abbrev Inv-loop : tie.InvT-loop
+Inv-loop starts₀ sums₀ max-starts₀ max-values₀ min-starts₀ min-values₀ chunk from out₀ taken₀ answers₀ starts sums max-starts max-values min-starts min-values out taken answers =
+    Inside chunk from (held (taken₀ .session) (tables starts₀ sums₀ max-starts₀ max-values₀ min-starts₀ min-values₀)) out₀ (held (taken .session) (tables starts sums max-starts max-values min-starts min-values)) (taken .to) out (taken .at) answers
+
+abbrev μ-loop : tie.MeasureT-loop
+μ-loop starts₀ sums₀ max-starts₀ max-values₀ min-starts₀ min-values₀ chunk from out₀ taken₀ answers₀ starts sums max-starts max-values min-starts min-values out taken answers =
+    length chunk - taken .to
+
+refuses-requires : tie.Need-refuses-requires Inv-loop μ-loop
 refuses-requires c κs = search needs
 
-same-length : tie.Need-same-length
-same-length c = search needs
+same-length : tie.Need-same-length Inv-loop μ-loop
+same-length c = refl
 
-same-length-2 : tie.Need-same-length-2
-same-length-2 c = search needs
+same-length-2 : tie.Need-same-length-2 Inv-loop μ-loop
+same-length-2 c = refl
 
-same-length-3 : tie.Need-same-length-3
-same-length-3 c = search needs
+same-length-3 : tie.Need-same-length-3 Inv-loop μ-loop
+same-length-3 c = refl
 
-same-length-4 : tie.Need-same-length-4
-same-length-4 c = search needs
+same-length-4 : tie.Need-same-length-4 Inv-loop μ-loop
+same-length-4 c = refl
 
-same-length-5 : tie.Need-same-length-5
-same-length-5 c = search needs
+same-length-5 : tie.Need-same-length-5 Inv-loop μ-loop
+same-length-5 c = refl
 
-same-length-6 : tie.Need-same-length-6
-same-length-6 c = search needs
+same-length-6 : tie.Need-same-length-6 Inv-loop μ-loop
+same-length-6 c = refl
 
-returns : tie.Need-returns
+returns : tie.Need-returns Inv-loop μ-loop
 returns c = not-fed (c .before .refuses .ensures) (c .if1 .taken)
 
-feed-lines-requires : tie.Need-feed-lines-requires
-feed-lines-requires c κs = search needs
+loop-holds : tie.Need-loop-holds Inv-loop μ-loop
+loop-holds c =
+    let at-start = c .before .before .before .before .before .before .before .before .before .before .before .before .before in
+    record { streams = streams-none (at-start .args .chunk .now) (at-start .args .from) _ _ _; onward = omega arith; inside = λ h. h; beyond = λ h. refl; room = omega arith; asLong = refl; few = λ h. h; table = refl; still = λ e. (refl, (refl, (refl, refl))) }
 
-same-length-7 : tie.Need-same-length-7
-same-length-7 c = search needs
+goes-on-requires : tie.Need-goes-on-requires Inv-loop μ-loop
+goes-on-requires c κs = omega arith
 
-same-length-8 : tie.Need-same-length-8
-same-length-8 c = search needs
+slice-aggregate-rest-of-line : tie.Need-slice-aggregate-rest-of-line Inv-loop μ-loop
+slice-aggregate-rest-of-line c =
+    let at-loop = c .before .before .before .before .before .before .before .before .before in
+    sym (at-loop .loop .inv .table)
 
-same-length-9 : tie.Need-same-length-9
-same-length-9 c = search needs
+rest-of-line-requires : tie.Need-rest-of-line-requires Inv-loop μ-loop
+rest-of-line-requires c κs =
+    let at-then2 = c .before .before .before .before .before .before .before .before in
+    let at-loop = at-then2 .before .before in
+    let g = goes-on _ _ _ _ _ (sym (at-then2 .before .goes-on .ensures) ∙ at-then2 .if2 .taken) in
+    ((at-loop .loop .inv .table, (g .1 .0, g .1 .1)), g .0)
 
-same-length-10 : tie.Need-same-length-10
-same-length-10 c = search needs
+loop-less : tie.Need-loop-less Inv-loop μ-loop
+loop-less c =
+    let rest = c .before .before .before .before .before .before .before .before .before .before .before .before .rest-of-line .ensures in
+    omega (arith, rest .onward, rest .inside)
 
-same-length-11 : tie.Need-same-length-11
-same-length-11 c = search needs
+loop-again : tie.Need-loop-again Inv-loop μ-loop
+loop-again c =
+    let at-rest-of-line = c .before .before .before .before .before .before .before .before .before .before .before .before in
+    let at-then2 = at-rest-of-line .before .before .before .before .before .before .before .before .before in
+    let at-loop = at-then2 .before .before in
+    let at-start = at-loop .before .before .before .before .before .before .before .before .before .before .before .before .before .before in
+    let v = at-loop .loop .inv in
+    let rest = at-rest-of-line .rest-of-line .ensures in
+    let lengths = at-rest-of-line .rest-of-line .kept .1 .1 .1 .1 .1 .1 .1 in
+    let going = goes-on _ _ _ _ _ (sym (at-then2 .before .goes-on .ensures) ∙ at-then2 .if2 .taken) in
+    record {
+      streams = streams-next (at-start .args .chunk .now) (at-start .args .from) _ _ (v .onward) (omega (arith, rest .onward)) (rest .inside) (v .streams) (rest .streams);
+      onward = omega (arith, rest .onward, v .onward);
+      inside = λ h. rest .inside;
+      beyond = λ h. absurd (omega (arith, h, going .0, v .onward));
+      room = omega (arith, rest .room, going .1 .0, lengths .1 .1 .0);
+      asLong = lengths .1 .1 .0 ∙ v .asLong;
+      few = λ h. rest .few;
+      table = lengths .0 ∙ v .table;
+      still = λ e. absurd (omega (arith, e, rest .onward, v .onward));
+    }
 
-same-length-12 : tie.Need-same-length-12
-same-length-12 c = search needs
+same-length-7 : tie.Need-same-length-7 Inv-loop μ-loop
+same-length-7 c = c .before .before .loop .inv .streams .kept .starts .asLong
 
-same-length-13 : tie.Need-same-length-13
-same-length-13 c = search needs
+same-length-8 : tie.Need-same-length-8 Inv-loop μ-loop
+same-length-8 c = c .before .before .loop .inv .streams .kept .sums .asLong
 
-returns-2 : tie.Need-returns-2
+same-length-9 : tie.Need-same-length-9 Inv-loop μ-loop
+same-length-9 c = c .before .before .loop .inv .streams .kept .maxStarts .asLong
+
+same-length-10 : tie.Need-same-length-10 Inv-loop μ-loop
+same-length-10 c = c .before .before .loop .inv .streams .kept .maxValues .asLong
+
+same-length-11 : tie.Need-same-length-11 Inv-loop μ-loop
+same-length-11 c = c .before .before .loop .inv .streams .kept .minStarts .asLong
+
+same-length-12 : tie.Need-same-length-12 Inv-loop μ-loop
+same-length-12 c = c .before .before .loop .inv .streams .kept .minValues .asLong
+
+same-length-13 : tie.Need-same-length-13 Inv-loop μ-loop
+same-length-13 c = c .before .before .loop .inv .asLong
+
+returns-2 : tie.Need-returns-2 Inv-loop μ-loop
 returns-2 c =
-    let at-feed-lines = c .before .before .before .before .before .before .before .before .before .before .before in
-    let at-else1 = at-feed-lines .before .before .before .before .before .before .before .before in
-    fed-lines (at-else1 .before .refuses .ensures) (at-else1 .if1 .left) (at-feed-lines .feed-lines .ensures)
+    let v = c .before .before .loop .inv in
+    let at-else1 = c .before .before .before in
+    fed-lines (at-else1 .before .refuses .ensures) (at-else1 .if1 .left)
+    (record { streams = v .streams; onward = v .onward; inside = v .inside; beyond = v .beyond; few = v .few; fits = v .room; still = v .still })
+    (λ l k. stopped _ _ _ _ _ (sym (c .before .goes-on .ensures) ∙ c .if2 .left) l (omega (arith, k, v .asLong)))
 
 pub feed-spec : {M : Type 1} → statement M
 feed-spec =
     tie.close
     (tie.spec
+    Inv-loop
+    μ-loop
     refuses-requires
     same-length
     same-length-2
@@ -71,7 +135,12 @@ feed-spec =
     same-length-5
     same-length-6
     returns
-    feed-lines-requires
+    loop-holds
+    goes-on-requires
+    slice-aggregate-rest-of-line
+    rest-of-line-requires
+    loop-less
+    loop-again
     same-length-7
     same-length-8
     same-length-9

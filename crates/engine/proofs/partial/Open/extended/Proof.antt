@@ -3,7 +3,7 @@ use mathlib.Core.Path.{ap, _∙_}
 use borrow.Author.Needs.{needs}
 use mir.Facts.{toZ-ofZ}
 use Rattle.engine.specs.declared.partial.Open.the-variants.{Holding}
-use Rattle.engine.specs.Open.{firstReading, extended}
+use Rattle.board.specs.Aggregates.{firstReading, extended}
 use Rattle.engine.proofs.partial.Open.extended.Statement.{statement}
 use Rattle.engine.proofs.partial.Open.extended.Tie as tie
 

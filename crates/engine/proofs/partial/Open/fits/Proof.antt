@@ -13,8 +13,8 @@ enum-told-2 c = search needs
 enum-known-self : tie.Need-enum-known-self
 enum-known-self c = search needs
 
-fits-requires : tie.Need-fits-requires
-fits-requires c κs = search needs
+aggregate-fits-requires : tie.Need-aggregate-fits-requires
+aggregate-fits-requires c κs = search needs
 
 returns : tie.Need-returns
 returns c = rw (c .enum-told .given .1) (λ e. tt, λ f. refl)
@@ -23,9 +23,9 @@ returns-2 : tie.Need-returns-2
 returns-2 c = rw (c .enum-told2 .given .1) (λ e. tt, λ f. refl)
 
 returns-3 : tie.Need-returns-3
-returns-3 c = rw (c .before .before .self .given .1) (c .fits2 .ensures)
+returns-3 c = rw (c .before .before .self .given .1) (c .aggregate-fits .ensures)
 
 pub fits-spec : {M : Type 1} → statement M
 fits-spec =
     tie.close
-    (tie.spec enum-told enum-told-2 enum-known-self fits-requires returns returns-2 returns-3)
+    (tie.spec enum-told enum-told-2 enum-known-self aggregate-fits-requires returns returns-2 returns-3)

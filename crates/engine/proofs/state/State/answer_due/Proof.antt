@@ -2,7 +2,7 @@
 -- on are to come.
 -- Assumes nothing.
 use Prim.Native.Nat.{ℕ, _+_, _-_, _≤_, _<_}
-use mathlib.Core.Path.{_≡_, sym, subst, _∙_}
+use mathlib.Core.Path.{_≡_, sym, ap, subst, _∙_}
 use mathlib.Core.Bool.{true, false}
 use mathlib.Core.Logic.{⊎-elim}
 use mathlib.Core.List.{List, [], _∷_}
@@ -12,19 +12,27 @@ use lib.IntN.{ℤ}
 use mir.Syntax.{w64}
 use mir.Facts.{toZ-ofZ}
 use Rattle.window.specs.declared.query.Query.{Query}
-use Rattle.window.specs.Queries.{Limits, due}
+use Rattle.window.specs.Queries.{Limits, due, windowStart, windowCount}
+use Rattle.window.specs.Calls.{Answer}
+use Rattle.board.specs.declared.aggregate.Aggregate.{Aggregate}
+use Rattle.board.specs.declared.board.Board.{Board}
+use Rattle.engine.specs.Answers.{answerWith, valueIn, answerIn, Backing}
 use Rattle.window.specs.Refusals.{dueAt}
 use Rattle.registry.specs.Records.{recordLimit, unused, used}
 use Rattle.registry.proofs.Scans.{mapped-length, each-at, filter-passed, filter-failed, filter-ended}
-use Rattle.engine.specs.Tables.{Tables, tables}
+use Rattle.board.specs.Tables.{Tables, tables}
 use Rattle.engine.proofs.Places.{AnsweredTo, answered-none, answered-kept, answered-room, answered-next, answered-all}
 use Rattle.engine.proofs.state.State.answer_due.Statement.{statement}
 use Rattle.engine.proofs.state.State.answer_due.Tie as tie
 
+-- the answer of a query from what is closed
+abbrev backed : (n : ℕ) (qs : List Query) (b : Board) (t : Tables) → Backing n qs b t → Query → Answer
+backed n qs b t x = answerIn (x .ledger .closed) n
+
 abbrev Inv-loop : tie.InvT-loop
 Inv-loop self starts sums max-starts max-values min-starts min-values answers₀ queries n answered₀ i₀ answers answered i =
     (i ≤ queries .count) × (answered ≤ i)
-    × AnsweredTo self (tables starts sums max-starts max-values min-starts min-values) (dueAt (self .count) (used queries)) (dueAt (self .count) (drop i (used queries))) answers₀ answers answered
+    × AnsweredTo (backed (self .count) (used queries) (self .board) (tables starts sums max-starts max-values min-starts min-values)) (dueAt (self .count) (used queries)) (dueAt (self .count) (drop i (used queries))) answers₀ answers answered
 
 abbrev μ-loop : tie.MeasureT-loop
 μ-loop self starts sums max-starts max-values min-starts min-values answers₀ queries n answered₀ i₀ answers answered i =
@@ -53,6 +61,10 @@ startOf l = l .before .before .before .before
 abbrev dueOf : tie.Start Inv-loop μ-loop → List Query
 dueOf s = dueAt (s .args .self .count) (used (s .args .t2))
 
+-- the answers from what is closed
+abbrev backOf : (s : tie.Start Inv-loop μ-loop) → Backing (s .args .self .count) (used (s .args .t2)) (s .args .self .board) (board s) → Query → Answer
+backOf s = backed (s .args .self .count) (used (s .args .t2)) (s .args .self .board) (board s)
+
 -- those from a place on
 abbrev dueFrom : tie.Start Inv-loop μ-loop → ℕ → List Query
 dueFrom s i = dueAt (s .args .self .count) (drop i (used (s .args .t2)))
@@ -63,20 +75,31 @@ queryAt s i = getD (s .args .t2 .records) i unused
 
 -- the used records are among the 32
 few : (s : tie.Start Inv-loop μ-loop) → s .args .t2 .count ≤ length (s .args .t2 .records)
-few s = subst (λ (n : ℕ). s .args .t2 .count ≤ n) (sym (whole s)) (s .pre .3)
+few s = subst (λ (n : ℕ). s .args .t2 .count ≤ n) (sym (whole s)) (s .pre .1)
 
 -- a used record is within the limits
 limits-at : (s : tie.Start Inv-loop μ-loop) (i : ℕ) → i < s .args .t2 .count → Limits (queryAt s i)
-limits-at s i h = each-at (s .args .t2 .records) (s .args .t2 .count) i unused h (few s) Limits (s .pre .4)
+limits-at s i h = each-at (s .args .t2 .records) (s .args .t2 .count) i unused h (few s) Limits (s .pre .2)
 
 -- and was registered no later than n
 origin-at : (s : tie.Start Inv-loop μ-loop) (i : ℕ) → i < s .args .t2 .count → queryAt s i .origin ≤ s .args .self .count
 origin-at s i h =
-    each-at (s .args .t2 .records) (s .args .t2 .count) i unused h (few s) (λ (q : Query). q .origin ≤ s .args .self .count) (s .pre .5)
+    each-at (s .args .t2 .records) (s .args .t2 .count) i unused h (few s) (λ (q : Query). q .origin ≤ s .args .self .count) (s .pre .3)
+
+-- the horizon of what is closed is not after its window's start
+early-at : (s : tie.Start Inv-loop μ-loop) (x : Backing (s .args .self .count) (used (s .args .t2)) (s .args .self .board) (board s)) (i : ℕ) → i < s .args .t2 .count
+    → x .horizon ≤ windowStart (s .args .self .count) (queryAt s i)
+early-at s x i h =
+    each-at (s .args .t2 .records) (s .args .t2 .count) i unused h (few s) (λ (q : Query). x .horizon ≤ windowStart (s .args .self .count) q) (x .early)
+
+-- the answer that was written is that from what is closed
+answer-backed : (cs : List Aggregate) (n : ℕ) (q : Query) (count : ℕ) (value : ℤ) → count ≡ windowCount n q → value ≡ valueIn cs n q → answerWith q count value ≡ answerIn cs n q
+unfolding answerIn
+answer-backed cs n q count value e f = ap (λ (k : ℕ). answerWith q k value) e ∙ ap (answerWith q (windowCount n q)) f
 
 -- what is answered, with these due queries to come
 abbrev Answering : tie.Start Inv-loop μ-loop → List Query → List ℤ → ℕ → Type 0
-Answering s left now k = AnsweredTo (s .args .self) (board s) (dueOf s) left (s .args .answers .now) now k
+Answering s left now k = AnsweredTo (backed (s .args .self .count) (used (s .args .t2)) (s .args .self .board) (board s)) (dueOf s) left (s .args .answers .now) now k
 
 -- at a used record that is due, it comes next
 due-now : (s : tie.Start Inv-loop μ-loop) (i : ℕ) (now : List ℤ) (k : ℕ) → i < s .args .t2 .count → due (s .args .self .count) (queryAt s i) ≡ true
@@ -95,7 +118,7 @@ not-due s i now k h d =
 loop-holds : tie.Need-loop-holds Inv-loop μ-loop
 loop-holds c =
     let s = c .before .before .before in
-    (omega arith, omega arith, answered-none (s .args .self) (board s) (dueOf s) (s .args .answers .now))
+    (omega arith, omega arith, answered-none (backOf s) (dueOf s) (s .args .answers .now))
 
 mul-q : tie.Need-mul-q Inv-loop μ-loop
 mul-q c = omega arith
@@ -110,7 +133,7 @@ window-value-requires : tie.Need-window-value-requires Inv-loop μ-loop
 window-value-requires c κs =
     let l = c .before .before .before .before in
     let s = startOf l in
-    (s .pre .0, s .pre .1, s .pre .2, origin-at s (l .loop .i) (c .before .before .before .loop-test .taken), s .pre .7)
+    (s .pre .0, origin-at s (l .loop .i) (c .before .before .before .loop-test .taken), s .pre .5)
 
 mul-put-answer : tie.Need-mul-put-answer Inv-loop μ-loop
 mul-put-answer c = omega arith
@@ -126,7 +149,7 @@ put-answer-requires c κs =
     let t = w .before .before .before in
     let l = t .before .loop in
     let s = startOf (t .before) in
-    answered-room (s .args .self) (board s) (dueOf s) (s .args .answers .now) (l .answers) (l .answered) (s .pre .6) (queryAt s (l .i)) (dueFrom s (l .i + 1))
+    answered-room (backOf s) (dueOf s) (s .args .answers .now) (l .answers) (l .answered) (s .pre .4) (queryAt s (l .i)) (dueFrom s (l .i + 1))
     (due-now s (l .i) (l .answers) (l .answered) (t .loop-test .taken) (sym (w .before .due .ensures) ∙ w .if1 .taken) (l .inv .2))
 
 add-answered : tie.Need-add-answered Inv-loop μ-loop
@@ -149,10 +172,11 @@ loop-again c =
       omega arith,
       subst (λ (k : ℕ). Answering s (dueFrom s (l .i + 1)) (c .if1 .answers) k) (sym (w .7))
           (subst (λ (now : List ℤ). Answering s (dueFrom s (l .i + 1)) now (l .answered + 1)) (sym (w .6))
-          (answered-next (s .args .self) (board s) (dueOf s) (s .args .answers .now) (l .answers) (l .answered) (s .pre .6) (queryAt s (l .i)) (dueFrom s (l .i + 1))
+          (answered-next (backOf s) (dueOf s) (s .args .answers .now) (l .answers) (l .answered) (s .pre .4) (queryAt s (l .i)) (dueFrom s (l .i + 1))
           (due-now s (l .i) (l .answers) (l .answered) (t .loop-test .taken) (sym (c .before .due .ensures) ∙ w .0 .taken) (l .inv .2))
-          (w .3 .result) _ _ (w .3 .ensures)
-          (λ o. toZ-ofZ {w = w64} {z = w .1 .result} (record { sfits = w .1 .ok }) ∙ w .1 .ensures o)
+          _ _
+          (λ x. answer-backed (x .ledger .closed) (s .args .self .count) (queryAt s (l .i)) _ _ (w .3 .ensures)
+          (toZ-ofZ {w = w64} {z = w .1 .result} (record { sfits = w .1 .ok }) ∙ w .1 .ensures (x .horizon) (x .ledger) (x .holds) (early-at s x (l .i) (t .loop-test .taken))))
           (w .4 .ensures))),
     ))
     (λ w. (
@@ -168,7 +192,7 @@ same-length : tie.Need-same-length Inv-loop μ-loop
 same-length c =
     let l = c .before .loop in
     let s = startOf (c .before) in
-    answered-kept (s .args .self) (board s) (dueOf s) (s .args .answers .now) (l .answers) (l .answered) (s .pre .6) (dueFrom s (l .i)) (l .inv .2)
+    answered-kept (backOf s) (dueOf s) (s .args .answers .now) (l .answers) (l .answered) (s .pre .4) (dueFrom s (l .i)) (l .inv .2)
 
 returns : tie.Need-returns Inv-loop μ-loop
 returns c =
@@ -177,7 +201,7 @@ returns c =
     let a : Answering s [] (l .answers) (l .answered) =
     subst (λ (qs : List Query). Answering s qs (l .answers) (l .answered))
     (filter-ended (due (s .args .self .count)) (s .args .t2 .records) (s .args .t2 .count) (l .i) (c .loop-test .left)) (l .inv .2) in
-    let all = answered-all (s .args .self) (board s) (dueOf s) (s .args .answers .now) (l .answers) (l .answered) a in
+    let all = answered-all (backOf s) (dueOf s) (s .args .answers .now) (l .answers) (l .answered) a in
     (all .0, (a .given, a .number, a .written, all .1))
 
 pub answer-due-spec : {M : Type 1} → statement M

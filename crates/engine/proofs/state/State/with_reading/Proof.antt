@@ -5,22 +5,26 @@ use mir.Facts.{toZ-ofZ}
 use Rattle.engine.specs.declared.partial.Open.{Open}
 use Rattle.engine.specs.Open.{openWith}
 use Rattle.engine.specs.States.{withReading, withPartial}
+use native.Mathlib.Omega.{arith}
+use Rattle.ints.proofs.Sizes.{small-more}
+use Rattle.deque.specs.Sums.{sumLimit}
+use Rattle.engine.specs.Open.{sizeLimit}
 use Rattle.engine.proofs.Aggregates.{holding-small}
 use Rattle.engine.proofs.state.State.with_reading.Statement.{statement}
 use Rattle.engine.proofs.state.State.with_reading.Tie as tie
 
 extended-requires : tie.Need-extended-requires
-extended-requires c κs = λ a e. let s = c .args .self in holding-small (s .count) (s .closed) (s .partial) a e (c .pre .0 .partial)
+extended-requires c κs = λ a e. let s = c .args .self in small-more sizeLimit sumLimit (a .sum) (omega arith) (holding-small (s .count) (s .board .closed) (s .partial) a e (c .pre .0 .partial))
 
-add-t8 : tie.Need-add-t8
-add-t8 c = search needs
+add-t6 : tie.Need-add-t6
+add-t6 c = search needs
 
 returns : tie.Need-returns
 returns c =
-    let s = c .before .before .before .before .before in
+    let s = c .before .before .before in
     let st = s .args .self in
     ap (λ (o : Open). withPartial o (withReading (s .args .value) st))
-    (c .before .before .before .before .extended .ensures ∙ ap (λ v. openWith (st .count) v (st .partial)) (toZ-ofZ (s .fits .value)))
+    (c .before .before .extended .ensures ∙ ap (λ v. openWith (st .count) v (st .partial)) (toZ-ofZ (s .fits .value)))
 
 pub with-reading-spec : {M : Type 1} → statement M
-with-reading-spec = tie.close (tie.spec extended-requires add-t8 returns)
+with-reading-spec = tie.close (tie.spec extended-requires add-t6 returns)

@@ -1,49 +1,41 @@
--- `Queries::check_reading` meets its contract: each verdict is that of the tests that led there. Assumes nothing.
+-- `Queries::check_reading` meets its contract: where the count is refused that decides, and otherwise the places.
+-- Assumes nothing.
+use mathlib.Core.Path.{sym, _∙_}
 use borrow.Author.Needs.{needs}
-use Prim.Native.Nat.{_+_}
-use native.Mathlib.Omega.{arith}
+use Rattle.window.specs.Queries.{countLimit}
+use Rattle.window.proofs.Refusals.{count-passed}
 use Rattle.registry.specs.Records.{used}
-use Rattle.registry.proofs.Scans.{due-few}
-use Rattle.registry.proofs.Verdicts.{reading-exhausted, reading-short, reading-counts}
+use Rattle.registry.proofs.Verdicts.{reading-uncounted, reading-counted}
 use Rattle.registry.proofs.queries.Queries.check_reading.Statement.{statement}
 use Rattle.registry.proofs.queries.Queries.check_reading.Tie as tie
 
+check-count-requires : tie.Need-check-count-requires
+check-count-requires c κs = search needs
+
+enum-known-refusal : tie.Need-enum-known-refusal
+enum-known-refusal c = search needs
+
 returns : tie.Need-returns
 returns c =
-    let a = c .before .args in
-    reading-exhausted (a .n) (used (a .self)) (a .places) (c .if1 .taken)
+    let n = c .before .before .before in
+    let a = n .before .args in
+    reading-uncounted (a .n) (used (a .self)) (a .places) _ (n .check-count .ensures) _ (c .before .refusal .given .1)
 
-mul-if2 : tie.Need-mul-if2
-mul-if2 c = search needs
+enum-told : tie.Need-enum-told
+enum-told c = search needs
+
+check-places-requires : tie.Need-check-places-requires
+check-places-requires c κs =
+    let n = c .before .before in
+    let pre = n .before .pre in
+    (pre .0, pre .1, count-passed countLimit (n .before .args .n) (sym (n .check-count .ensures) ∙ c .enum-told .given .1))
 
 returns-2 : tie.Need-returns-2
 returns-2 c =
-    let a = c .before .before .before .args in
-    reading-counts (a .n) (used (a .self)) (a .places) (c .before .before .if1 .left) (omega (arith, due-few (a .n + 1) (a .self .count) (a .self .records), c .if2 .taken))
-
-add-due-count : tie.Need-add-due-count
-add-due-count c = search needs
-
-due-count-requires : tie.Need-due-count-requires
-due-count-requires c κs = search needs
-
-mul-if3 : tie.Need-mul-if3
-mul-if3 c = search needs
-
-returns-3 : tie.Need-returns-3
-returns-3 c =
-    let d = c .before in
-    let e = d .before .before .before in
-    let a = e .before .args in
-    reading-short (a .n) (used (a .self)) (a .places) (e .if1 .left) (omega (arith, d .due-count .ensures .1))
-
-returns-4 : tie.Need-returns-4
-returns-4 c =
-    let d = c .before in
-    let e = d .before .before .before in
-    let a = e .before .args in
-    reading-counts (a .n) (used (a .self)) (a .places) (e .if1 .left) (omega (arith, d .due-count .ensures .1))
+    let n = c .before .before .before in
+    let a = n .before .args in
+    c .check-places .ensures ∙ reading-counted (a .n) (used (a .self)) (a .places) _ (n .check-count .ensures) (c .before .enum-told .given .1)
 
 pub check-reading-spec : {M : Type 1} → statement M
 check-reading-spec =
-    tie.close (tie.spec returns mul-if2 returns-2 add-due-count due-count-requires mul-if3 returns-3 returns-4)
+    tie.close (tie.spec check-count-requires enum-known-refusal returns enum-told check-places-requires returns-2)

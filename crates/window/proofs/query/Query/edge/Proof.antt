@@ -12,24 +12,38 @@ use Rattle.window.proofs.query.Query.edge.Tie as tie
 returns : tie.Need-returns
 returns c = simp (le-ltb _ _ (c .if1 .taken))
 
+count-of-requires : tie.Need-count-of-requires
+count-of-requires c κs = search needs
+
 phase-requires : tie.Need-phase-requires
 phase-requires c κs = search needs
 
 rem-rest : tie.Need-rem-rest
-rem-rest c = search needs
+rem-rest c = omega (arith, c .before .count-of .ensures, c .before .before .before .before .pre .slideLow)
 
 returns-2 : tie.Need-returns-2
-returns-2 c = sym (edge-at-end _ _ _ (c .before .before .phase .ensures) (c .before .before .before .if1 .left) (c .if2 .taken))
+returns-2 c =
+    let p = c .before in
+    sym (edge-at-end _ _ _ (p .phase .ensures) (p .before .before .if1 .left) (rw (p .before .count-of .ensures) at (c .if2 .taken)))
+
+count-of-requires-2 : tie.Need-count-of-requires-2
+count-of-requires-2 c κs = search needs
 
 add-result : tie.Need-add-result
-add-result c = omega (arith, mod-lt (c .before .before .before .phase .result) (c .before .before .before .before .before .before .pre .slideLow))
+add-result c =
+    let p = c .before .before in
+    omega (arith, mod-lt (p .phase .result) (rw (← p .before .count-of .ensures) at (p .before .before .before .before .pre .slideLow)), p .before .count-of .ensures, c .count-of2 .ensures)
 
 rem-result : tie.Need-rem-result
-rem-result c = search needs
+rem-result c = omega (arith, c .before .before .before .count-of .ensures, c .before .before .before .before .before .before .pre .slideLow)
 
 returns-3 : tie.Need-returns-3
-returns-3 c = sym (edge-elsewhere _ _ _ (c .before .before .before .before .phase .ensures) (c .before .before .before .before .before .if1 .left) (c .before .before .if2 .left))
+returns-3 c =
+    let p = c .before .before in
+    rw (c .count-of2 .ensures, p .before .count-of .ensures)
+    (sym (edge-elsewhere _ _ _ (p .phase .ensures) (p .before .before .if1 .left) (λ e. c .before .if2 .left (rw (p .before .count-of .ensures) e))))
 
 pub edge-spec : {M : Type 1} → statement M
 edge-spec =
-    tie.close (tie.spec returns phase-requires rem-rest returns-2 add-result rem-result returns-3)
+    tie.close
+    (tie.spec returns count-of-requires phase-requires rem-rest returns-2 count-of-requires-2 add-result rem-result returns-3)

@@ -1,0 +1,4 @@
+pub mod Aggregates
+pub mod Tables
+pub mod Ledgers
+pub mod Boards

@@ -1,0 +1,4 @@
+pub mod Signs
+pub mod Copies
+pub mod States
+pub mod Places

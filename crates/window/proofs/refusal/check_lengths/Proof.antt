@@ -1,0 +1,37 @@
+-- `check_lengths` meets its contract: each answer is the first check that applies, given the tests passed before it.
+-- Assumes nothing.
+use mathlib.Core.Path.{sym, _∙_}
+use borrow.Author.Needs.{needs}
+use borrow.Author.Tests.{not-true, not-false}
+use Rattle.window.specs.Refusals.{lengthChecks}
+use Rattle.window.proofs.refusal.check_lengths.Statement.{statement}
+use Rattle.window.proofs.refusal.check_lengths.Tie as tie
+
+within-requires : tie.Need-within-requires
+within-requires c κs = search needs
+
+returns : tie.Need-returns
+unfolding lengthChecks
+returns c = rw (sym (c .before .within .ensures) ∙ not-true _ (c .if1 .taken))
+
+within-requires-2 : tie.Need-within-requires-2
+within-requires-2 c κs = search needs
+
+returns-2 : tie.Need-returns-2
+unfolding lengthChecks
+returns-2 c =
+    rw (
+      sym (c .before .before .before .within .ensures) ∙ not-false _ (c .before .before .if1 .left),
+      sym (c .before .within2 .ensures) ∙ not-true _ (c .if2 .taken),
+    )
+
+returns-3 : tie.Need-returns-3
+unfolding lengthChecks
+returns-3 c =
+    rw (
+      sym (c .before .before .before .within .ensures) ∙ not-false _ (c .before .before .if1 .left),
+      sym (c .before .within2 .ensures) ∙ not-false _ (c .if2 .left),
+    )
+
+pub check-lengths-spec : {M : Type 1} → statement M
+check-lengths-spec = tie.close (tie.spec within-requires returns within-requires-2 returns-2 returns-3)
