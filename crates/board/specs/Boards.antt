@@ -76,7 +76,6 @@ pub record HoldsLive (h : ℕ) (l : Ledger) (b : Board) (t : Tables) : Type 0 wh
 
 -- an empty board stands for the ledger in which nothing is closed, at every horizon and on all tables
 pub record EmptyEnsures (b : Board) : Type 0 where
-  pub usable : Usable b
   pub holds : (h : ℕ) (t : Tables) → Holds h nothingClosed b t
 
 -- the closing of a with the horizon h, whatever the tables hold; and of a board that stands for a ledger, where a

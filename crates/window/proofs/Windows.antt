@@ -1,5 +1,5 @@
--- Windows from partials: the answers of a due query by the closed partials and by the standing ones (W1 and W5), and
--- how many partials are live (W6). Facts for maxima and minima come from one argument over the order.
+-- Windows from partials: what a due query is answered, by the closed partials (W1 and W5), and how many partials are
+-- live (W6). Facts for maxima and minima come from one argument over the order.
 -- Assumes nothing.
 use mathlib.Core.Path.{_≡_, refl, subst}
 use mathlib.Core.Bool.{Bool, true, false, cond}

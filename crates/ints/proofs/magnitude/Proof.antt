@@ -38,9 +38,6 @@ returns c = rw (negated-is _ (c .before .fits .x) (below c)) (omega (arith, belo
 cast-result-2 : tie.Need-cast-result-2
 cast-result-2 c = rw (toZ-ofZ (c .before .fits .x)) (other-fits _ (c .before .fits .x) (other c))
 
-returns-2 : tie.Need-returns-2
-returns-2 c = search needs
-
 pub magnitude-spec : {M : Type 1} → statement M
 magnitude-spec =
-    tie.close (tie.spec add-next sub-size cast-result add-result returns cast-result-2 returns-2)
+    tie.close (tie.spec add-next sub-size cast-result add-result returns cast-result-2 (λ c. search needs))

@@ -25,40 +25,10 @@ clamped-is s = ap (λ (z : ℤ). clamped z (length (s .args .chunk .now))) (toZ-
 returns : tie.Need-returns
 returns c = let s = c .before .before .before .before .before .before in (read-failed (s .args .got) (s .args .chunk .now) _ (sym (below-is s) ∙ c .if1 .taken), refl)
 
-count-requires : tie.Need-count-requires
-count-requires c κs = search needs
-
 returns-2 : tie.Need-returns-2
 returns-2 c =
     let s = c .before .before .before .before .before .before .before .before in
     (read-ended (s .args .got) (s .args .chunk .now) _ (sym (below-is s) ∙ c .before .before .if1 .left) (omega (arith, clamped-is s, c .before .count .ensures .1, c .if2 .taken)), refl)
-
-slice-aggregate-feed-chunk : tie.Need-slice-aggregate-feed-chunk
-slice-aggregate-feed-chunk c = search needs
-
-feed-chunk-requires : tie.Need-feed-chunk-requires
-feed-chunk-requires c κs = search needs
-
-same-length : tie.Need-same-length
-same-length c = search needs
-
-same-length-2 : tie.Need-same-length-2
-same-length-2 c = search needs
-
-same-length-3 : tie.Need-same-length-3
-same-length-3 c = search needs
-
-same-length-4 : tie.Need-same-length-4
-same-length-4 c = search needs
-
-same-length-5 : tie.Need-same-length-5
-same-length-5 c = search needs
-
-same-length-6 : tie.Need-same-length-6
-same-length-6 c = search needs
-
-same-length-7 : tie.Need-same-length-7
-same-length-7 c = search needs
 
 returns-3 : tie.Need-returns-3
 returns-3 c =
@@ -75,15 +45,15 @@ after-read-spec =
     tie.close
     (tie.spec
     returns
-    count-requires
+    (λ c κs. search needs)
     returns-2
-    slice-aggregate-feed-chunk
-    feed-chunk-requires
-    same-length
-    same-length-2
-    same-length-3
-    same-length-4
-    same-length-5
-    same-length-6
-    same-length-7
+    (λ c. search needs)
+    (λ c κs. search needs)
+    (λ c. search needs)
+    (λ c. search needs)
+    (λ c. search needs)
+    (λ c. search needs)
+    (λ c. search needs)
+    (λ c. search needs)
+    (λ c. search needs)
     returns-3)

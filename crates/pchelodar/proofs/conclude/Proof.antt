@@ -15,9 +15,6 @@ use Rattle.pchelodar.proofs.conclude.Tie as tie
 enum-told : tie.Need-enum-told
 enum-told c = search needs
 
-finish-requires : tie.Need-finish-requires
-finish-requires c κs = search needs
-
 returns : tie.Need-returns
 returns c =
     let done = c .before .before .before .before .before .before .before .args .done in (
@@ -25,40 +22,10 @@ returns c =
       (λ lent handed. not-ended lent _ _ (done .progress) (c .before .match .keys2) handed, λ told. told),
     )
 
-slice-reshare-prefix-write-all : tie.Need-slice-reshare-prefix-write-all
-slice-reshare-prefix-write-all c = search needs
-
 slice-aggregate-write-all : tie.Need-slice-aggregate-write-all
 slice-aggregate-write-all c =
     let at-finish = c .before .before .before .before .before .before .before .before .before .before .before .before in
     omega (arith, at-finish .finish .ensures .fits, length-take (at-finish .finish .result) (at-finish .finish .last .1 .1 .1 .1 .1 .1 .1 .0))
-
-write-all-requires : tie.Need-write-all-requires
-write-all-requires c κs = search needs
-
-after-write-requires : tie.Need-after-write-requires
-after-write-requires c κs = search needs
-
-same-length : tie.Need-same-length
-same-length c = search needs
-
-same-length-2 : tie.Need-same-length-2
-same-length-2 c = search needs
-
-same-length-3 : tie.Need-same-length-3
-same-length-3 c = search needs
-
-same-length-4 : tie.Need-same-length-4
-same-length-4 c = search needs
-
-same-length-5 : tie.Need-same-length-5
-same-length-5 c = search needs
-
-same-length-6 : tie.Need-same-length-6
-same-length-6 c = search needs
-
-same-length-7 : tie.Need-same-length-7
-same-length-7 c = search needs
 
 returns-2 : tie.Need-returns-2
 returns-2 c =
@@ -81,17 +48,17 @@ conclude-spec =
     tie.close
     (tie.spec
     enum-told
-    finish-requires
+    (λ c κs. search needs)
     returns
-    slice-reshare-prefix-write-all
+    (λ c. search needs)
     slice-aggregate-write-all
-    write-all-requires
-    after-write-requires
-    same-length
-    same-length-2
-    same-length-3
-    same-length-4
-    same-length-5
-    same-length-6
-    same-length-7
+    (λ c κs. search needs)
+    (λ c κs. search needs)
+    (λ c. search needs)
+    (λ c. search needs)
+    (λ c. search needs)
+    (λ c. search needs)
+    (λ c. search needs)
+    (λ c. search needs)
+    (λ c. search needs)
     returns-2)

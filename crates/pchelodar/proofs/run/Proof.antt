@@ -7,9 +7,6 @@ use Rattle.pchelodar.proofs.Composing.{all-handed, heard-after}
 use Rattle.pchelodar.proofs.run.Statement.{statement}
 use Rattle.pchelodar.proofs.run.Tie as tie
 
-open-requires : tie.Need-open-requires
-open-requires c κs = search needs
-
 read-all-requires : tie.Need-read-all-requires
 read-all-requires c κs =
     let at-start = c .before .before .before .before .before .before .before .before .before .before .before .before .before .before .before .before .before .before .before .before .before .before .before .before .before .before .before .before .before in
@@ -63,12 +60,6 @@ same-length-6 c =
     let at-open = at-read-all .before .before .before .before .before .before .before .before .before .before .before .before .before .before .before .before .before .before in
     at-conclude .conclude .kept .1 .1 .1 .1 .1 .1 .0 ∙ at-read-all .read-all .kept .1 .1 .1 .1 .1 .1 .0 ∙ at-open .«open» .kept .1 .1 .1 .1 .1 .0
 
-same-length-7 : tie.Need-same-length-7
-same-length-7 c = search needs
-
-same-length-8 : tie.Need-same-length-8
-same-length-8 c = search needs
-
 returns : tie.Need-returns
 returns c =
     let at-conclude = c .before .before .before .before .before .before .before .before .before .before .before in
@@ -90,7 +81,7 @@ pub run-spec : {M : Type 1} → statement M
 run-spec =
     tie.close
     (tie.spec
-    open-requires
+    (λ c κs. search needs)
     read-all-requires
     conclude-requires
     same-length
@@ -99,6 +90,6 @@ run-spec =
     same-length-4
     same-length-5
     same-length-6
-    same-length-7
-    same-length-8
+    (λ c. search needs)
+    (λ c. search needs)
     returns)

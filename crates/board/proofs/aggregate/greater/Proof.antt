@@ -10,9 +10,6 @@ use Rattle.board.proofs.aggregate.greater.Tie as tie
 enum-told : tie.Need-enum-told
 enum-told c = search needs
 
-enum-told-2 : tie.Need-enum-told-2
-enum-told-2 c = search needs
-
 returns : tie.Need-returns
 returns c =
     let s = c .before .before .before in
@@ -34,4 +31,4 @@ returns-4 c =
     rw (c .before .enum-told2 .given .1) (earlier-greater geZ (toZ-ofZ (s .fits .a)) (toZ-ofZ (s .fits .b)) (c .if2 .left))
 
 pub greater-spec : {M : Type 1} → statement M
-greater-spec = tie.close (tie.spec enum-told enum-told-2 returns returns-2 returns-3 returns-4)
+greater-spec = tie.close (tie.spec enum-told (λ c. search needs) returns returns-2 returns-3 returns-4)

@@ -5,12 +5,6 @@ use borrow.Author.Needs.{needs}
 use Rattle.board.proofs.board.deque_fits.Statement.{statement}
 use Rattle.board.proofs.board.deque_fits.Tie as tie
 
-fits-requires : tie.Need-fits-requires
-fits-requires c κs = search needs
-
-total-fits-requires : tie.Need-total-fits-requires
-total-fits-requires c κs = search needs
-
 returns : tie.Need-returns
 returns c = (λ e. (c .before .before .fits2 .ensures .0 (c .before .if1 .taken), c .total-fits .ensures .0 e), λ f. c .total-fits .ensures .1 (f .1))
 
@@ -18,4 +12,4 @@ returns-2 : tie.Need-returns-2
 returns-2 c = (λ e. absurd (false≢true e), λ f. absurd (false≢true (sym (c .if1 .left) ∙ c .before .fits2 .ensures .1 (f .0))))
 
 pub deque-fits-spec : {M : Type 1} → statement M
-deque-fits-spec = tie.close (tie.spec fits-requires total-fits-requires returns returns-2)
+deque-fits-spec = tie.close (tie.spec (λ c κs. search needs) (λ c κs. search needs) returns returns-2)

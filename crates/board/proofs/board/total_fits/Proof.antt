@@ -9,15 +9,6 @@ use Rattle.board.proofs.board.total_fits.Tie as tie
 returns : tie.Need-returns
 returns c = (λ e. omega (arith, eqb-true (c .before .args .total) 0 e), λ l. eq-eqb (c .before .args .total) 0 (omega arith))
 
-wide-requires : tie.Need-wide-requires
-wide-requires c κs = search needs
-
-mul-result : tie.Need-mul-result
-mul-result c = search needs
-
-sub-result : tie.Need-sub-result
-sub-result c = search needs
-
 returns-2 : tie.Need-returns-2
 returns-2 c =
     let a = c .before .before .args in
@@ -27,4 +18,4 @@ returns-2 c =
     )
 
 pub total-fits-spec : {M : Type 1} → statement M
-total-fits-spec = tie.close (tie.spec returns wide-requires mul-result sub-result returns-2)
+total-fits-spec = tie.close (tie.spec returns (λ c κs. search needs) (λ c. search needs) (λ c. search needs) returns-2)

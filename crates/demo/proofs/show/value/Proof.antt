@@ -8,11 +8,5 @@ use Rattle.demo.proofs.show.value.Tie as tie
 cast-signed : tie.Need-cast-signed
 cast-signed c = wide-fits (c .fits .x)
 
-signed-requires : tie.Need-signed-requires
-signed-requires c κs = search needs
-
-returns : tie.Need-returns
-returns c = search needs
-
 pub value-spec : {M : Type 1} → statement M
-value-spec = tie.close (tie.spec cast-signed signed-requires returns)
+value-spec = tie.close (tie.spec cast-signed (λ c κs. search needs) (λ c. search needs))

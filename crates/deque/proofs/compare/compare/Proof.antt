@@ -7,14 +7,8 @@ use Rattle.deque.proofs.compare.compare.Tie as tie
 use Rattle.deque.proofs.compare.compare.Reads as reads
 use Rattle.deque.proofs.compare.compare.Lts as lts
 
-add-total : tie.Need-add-total
-add-total c = search needs
-
 enum-told : tie.Need-enum-told
 enum-told c = search needs
-
-enum-told-2 : tie.Need-enum-told-2
-enum-told-2 c = search needs
 
 returns : tie.Need-returns
 returns c =
@@ -27,4 +21,4 @@ returns-2 c =
     (rw (c .enum-told2 .given .1) (ap₂ leZ (toZ-ofZ (s .fits .newer)) (toZ-ofZ (s .fits .older))), refl)
 
 pub compare-spec : {M : Type 1} → statement M
-compare-spec = tie.close (tie.spec add-total enum-told enum-told-2 returns returns-2)
+compare-spec = tie.close (tie.spec (λ c. search needs) enum-told (λ c. search needs) returns returns-2)

@@ -8,9 +8,6 @@ use Rattle.encoding.proofs.Signs.{even-is, odd-is, odd-fits, odd-machin
 use Rattle.encoding.proofs.signed.signed.Statement.{statement}
 use Rattle.encoding.proofs.signed.signed.Tie as tie
 
-cast-half : tie.Need-cast-half
-cast-half c = search needs
-
 returns : tie.Need-returns
 returns c = let w = c .before .args .w in most-is (w / 2) (omega arith) ∙ sym (even-is w (c .if1 .taken))
 
@@ -24,4 +21,4 @@ returns-2 : tie.Need-returns-2
 returns-2 c = let w = c .before .args .w in odd-machine (w / 2) (omega arith) ∙ sym (odd-is w (c .if1 .left))
 
 pub signed-spec : {M : Type 1} → statement M
-signed-spec = tie.close (tie.spec cast-half returns sub-result sub-result-2 returns-2)
+signed-spec = tie.close (tie.spec (λ c. search needs) returns sub-result sub-result-2 returns-2)

@@ -22,9 +22,6 @@ other c = rw (toZ-ofZ (c .before .fits .x)) at (c .if1 .left)
 size-is : (c : tie.After-magnitude) → c .magnitude .result ≡ natAbs (c .before .before .args .x)
 size-is c = c .magnitude .ensures ∙ ap natAbs (toZ-ofZ (c .before .before .fits .x))
 
-magnitude-requires : tie.Need-magnitude-requires
-magnitude-requires c κs = search needs
-
 sub-result : tie.Need-sub-result
 sub-result c = omega (arith, size-is c, below-size _ (c .before .before .fits .x) (below (c .before)))
 
@@ -50,7 +47,7 @@ pub unsigned-spec : {M : Type 1} → statement M
 unsigned-spec =
     tie.close
     (tie.spec
-    magnitude-requires
+    (λ c κs. search needs)
     sub-result
     mul-result
     add-result

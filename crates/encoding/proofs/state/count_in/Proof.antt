@@ -7,9 +7,6 @@ use Rattle.window.specs.Queries.{countLimit}
 use Rattle.encoding.proofs.state.count_in.Statement.{statement}
 use Rattle.encoding.proofs.state.count_in.Tie as tie
 
-is-count-requires : tie.Need-is-count-requires
-is-count-requires c κs = search needs
-
 cast-result : tie.Need-cast-result
 cast-result c = record { fits = omega (arith, leb-true (c .before .before .args .w) countLimit (sym (c .before .is-count .ensures) ∙ c .if1 .taken)) }
 
@@ -20,4 +17,4 @@ returns-2 : tie.Need-returns-2
 returns-2 c = rw (sym (c .before .is-count .ensures) ∙ c .if1 .left) refl
 
 pub count-in-spec : {M : Type 1} → statement M
-count-in-spec = tie.close (tie.spec is-count-requires cast-result returns returns-2)
+count-in-spec = tie.close (tie.spec (λ c κs. search needs) cast-result returns returns-2)

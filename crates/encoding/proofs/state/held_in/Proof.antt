@@ -9,13 +9,7 @@ enum-told : tie.Need-enum-told
 enum-told c = search needs
 
 -- src/state.rt:150:24
-enum-told-2 : tie.Need-enum-told-2
-enum-told-2 c = search needs
-
 -- src/state.rt:151:23
-enum-known-partial : tie.Need-enum-known-partial
-enum-known-partial c = search needs
-
 -- src/state.rt:139:1
 returns : tie.Need-returns
 returns c = rw (c .enum-told .given .1) refl
@@ -25,9 +19,6 @@ returns-2 : tie.Need-returns-2
 returns-2 c = rw (c .enum-told2 .given .1) refl
 
 -- src/state.rt:139:1
-returns-3 : tie.Need-returns-3
-returns-3 c = search needs
-
 pub held-in-spec : {M : Type 1} → statement M
 held-in-spec =
-    tie.close (tie.spec enum-told enum-told-2 enum-known-partial returns returns-2 returns-3)
+    tie.close (tie.spec enum-told (λ c. search needs) (λ c. search needs) returns returns-2 (λ c. search needs))

@@ -7,18 +7,6 @@ use borrow.Author.Needs.{needs}
 use Rattle.encoding.proofs.state.held_of.Statement.{statement}
 use Rattle.encoding.proofs.state.held_of.Tie as tie
 
-count-in-requires : tie.Need-count-in-requires
-count-in-requires c κs = search needs
-
-signed-requires : tie.Need-signed-requires
-signed-requires c κs = search needs
-
-narrow-signed-requires : tie.Need-narrow-signed-requires
-narrow-signed-requires c κs = search needs
-
-narrow-signed-requires-2 : tie.Need-narrow-signed-requires-2
-narrow-signed-requires-2 c κs = search needs
-
 returns : tie.Need-returns
 returns c =
     let m = c .before in
@@ -33,8 +21,8 @@ pub held-of-spec : {M : Type 1} → statement M
 held-of-spec =
     tie.close
     (tie.spec
-    count-in-requires
-    signed-requires
-    narrow-signed-requires
-    narrow-signed-requires-2
+    (λ c κs. search needs)
+    (λ c κs. search needs)
+    (λ c κs. search needs)
+    (λ c κs. search needs)
     returns)

@@ -5,11 +5,8 @@ use lib.Dec.{leb}
 use Rattle.encoding.proofs.state.is_count.Statement.{statement}
 use Rattle.encoding.proofs.state.is_count.Tie as tie
 
-wide-requires : tie.Need-wide-requires
-wide-requires c κs = search needs
-
 returns : tie.Need-returns
 returns c = ap (leb (c .before .args .w)) (c .wide .ensures)
 
 pub is-count-spec : {M : Type 1} → statement M
-is-count-spec = tie.close (tie.spec wide-requires returns)
+is-count-spec = tie.close (tie.spec (λ c κs. search needs) returns)

@@ -7,9 +7,6 @@ use Rattle.encoding.specs.Written.{width32}
 use Rattle.encoding.proofs.state.narrow.Statement.{statement}
 use Rattle.encoding.proofs.state.narrow.Tie as tie
 
-cast-result : tie.Need-cast-result
-cast-result c = search needs
-
 returns : tie.Need-returns
 returns c = rw (lt-ltb (c .before .args .w) width32 (omega arith)) refl
 
@@ -17,4 +14,4 @@ returns-2 : tie.Need-returns-2
 returns-2 c = rw (le-ltb (c .before .args .w) width32 (omega arith)) refl
 
 pub narrow-spec : {M : Type 1} → statement M
-narrow-spec = tie.close (tie.spec cast-result returns returns-2)
+narrow-spec = tie.close (tie.spec (λ c. search needs) returns returns-2)

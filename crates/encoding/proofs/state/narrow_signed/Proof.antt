@@ -11,15 +11,6 @@ use Rattle.encoding.proofs.Signs.{narrow-fits, narrow-below}
 use Rattle.encoding.proofs.state.narrow_signed.Statement.{statement}
 use Rattle.encoding.proofs.state.narrow_signed.Tie as tie
 
-narrow-requires : tie.Need-narrow-requires
-narrow-requires c κs = search needs
-
-cast-signed : tie.Need-cast-signed
-cast-signed c = search needs
-
-signed-requires : tie.Need-signed-requires
-signed-requires c κs = search needs
-
 -- what is read is the narrow number's
 signed-is : (c : tie.After-signed) → c .signed .result ≡ signed (narrow (c .before .before .args .w))
 signed-is c = c .signed .ensures ∙ ap signed (c .before .narrow .ensures)
@@ -39,4 +30,4 @@ returns c = moved (wide-is c) (fits c)
 
 pub narrow-signed-spec : {M : Type 1} → statement M
 narrow-signed-spec =
-    tie.close (tie.spec narrow-requires cast-signed signed-requires cast-result returns)
+    tie.close (tie.spec (λ c κs. search needs) (λ c. search needs) (λ c κs. search needs) cast-result returns)

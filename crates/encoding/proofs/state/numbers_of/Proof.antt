@@ -22,41 +22,11 @@ holding c = c .before .before .before .before .before .before .before .before .b
 abbrev held : tie.After-case-of → Aggregate
 held c = holding c .held-in .result
 
-held-in-requires : tie.Need-held-in-requires
-held-in-requires c κs = search needs
-
-wide-requires : tie.Need-wide-requires
-wide-requires c κs = search needs
-
-wide-requires-2 : tie.Need-wide-requires-2
-wide-requires-2 c κs = search needs
-
-case-of-requires : tie.Need-case-of-requires
-case-of-requires c κs = search needs
-
-wide-requires-3 : tie.Need-wide-requires-3
-wide-requires-3 c κs = search needs
-
-unsigned-requires : tie.Need-unsigned-requires
-unsigned-requires c κs = search needs
-
 cast-unsigned : tie.Need-cast-unsigned
 cast-unsigned c = wide-fits {z = held (c .before .before .before .before .before) .maximum} (record { sfits = c .struct-told2 .given .1 .1 .0 .1 })
 
-unsigned-requires-2 : tie.Need-unsigned-requires-2
-unsigned-requires-2 c κs = search needs
-
 cast-unsigned-2 : tie.Need-cast-unsigned-2
 cast-unsigned-2 c = wide-fits {z = held (c .before .before .before .before .before .before .before .before) .minimum} (record { sfits = c .struct-told3 .given .1 .1 .1 .0 .1 })
-
-unsigned-requires-3 : tie.Need-unsigned-requires-3
-unsigned-requires-3 c κs = search needs
-
-unsigned-requires-4 : tie.Need-unsigned-requires-4
-unsigned-requires-4 c κs = search needs
-
-unsigned-requires-5 : tie.Need-unsigned-requires-5
-unsigned-requires-5 c κs = search needs
 
 returns : tie.Need-returns
 returns c =
@@ -94,16 +64,16 @@ pub numbers-of-spec : {M : Type 1} → statement M
 numbers-of-spec =
     tie.close
     (tie.spec
-    held-in-requires
-    wide-requires
-    wide-requires-2
-    case-of-requires
-    wide-requires-3
-    unsigned-requires
+    (λ c κs. search needs)
+    (λ c κs. search needs)
+    (λ c κs. search needs)
+    (λ c κs. search needs)
+    (λ c κs. search needs)
+    (λ c κs. search needs)
     cast-unsigned
-    unsigned-requires-2
+    (λ c κs. search needs)
     cast-unsigned-2
-    unsigned-requires-3
-    unsigned-requires-4
-    unsigned-requires-5
+    (λ c κs. search needs)
+    (λ c κs. search needs)
+    (λ c κs. search needs)
     returns)

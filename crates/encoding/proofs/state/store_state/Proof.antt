@@ -10,15 +10,6 @@ use borrow.Author.Needs.{needs}
 use Rattle.encoding.proofs.state.store_state.Statement.{statement}
 use Rattle.encoding.proofs.state.store_state.Tie as tie
 
-numbers-of-requires : tie.Need-numbers-of-requires
-numbers-of-requires c κs = search needs
-
-store-numbers-requires : tie.Need-store-numbers-requires
-store-numbers-requires c κs = search needs
-
-same-length : tie.Need-same-length
-same-length c = search needs
-
 returns : tie.Need-returns
 returns c =
     let s = c .before .before in
@@ -31,4 +22,4 @@ returns c =
 
 pub store-state-spec : {M : Type 1} → statement M
 store-state-spec =
-    tie.close (tie.spec numbers-of-requires store-numbers-requires same-length returns)
+    tie.close (tie.spec (λ c κs. search needs) (λ c κs. search needs) (λ c. search needs) returns)

@@ -7,12 +7,6 @@ use borrow.Author.Needs.{needs}
 use Rattle.encoding.proofs.state.sums_of.Statement.{statement}
 use Rattle.encoding.proofs.state.sums_of.Tie as tie
 
-signed-requires : tie.Need-signed-requires
-signed-requires c κs = search needs
-
-signed-requires-2 : tie.Need-signed-requires-2
-signed-requires-2 c κs = search needs
-
 returns : tie.Need-returns
 returns c =
     let a = c .before .before .args in
@@ -21,4 +15,4 @@ returns c =
     (toZ-ofZ {w = w64} {z = c .signed2 .result} (record { sfits = c .signed2 .ok }) ∙ c .signed2 .ensures)
 
 pub sums-of-spec : {M : Type 1} → statement M
-sums-of-spec = tie.close (tie.spec signed-requires signed-requires-2 returns)
+sums-of-spec = tie.close (tie.spec (λ c κs. search needs) (λ c κs. search needs) returns)

@@ -114,23 +114,8 @@ closing c = c .before .before .before .before .before .before .before .before .b
 left : (d : tie.After-close-open) → Left (told (cut d) .with-reading .result) (d .close-open .result)
 left d = open-left (told (cut d) .with-reading .result .partial) _ _ _ _ _ (ready (told (cut d))) (d .close-open .ensures)
 
-enough-requires : tie.Need-enough-requires
-enough-requires c κs = search needs
-
-next-count-requires : tie.Need-next-count-requires
-next-count-requires c κs = search needs
-
-scan-requires : tie.Need-scan-requires
-scan-requires c κs = search needs
-
 judge-reading-requires : tie.Need-judge-reading-requires
 judge-reading-requires c κs = c .scan .ensures .0
-
-enum-known-refusal : tie.Need-enum-known-refusal
-enum-known-refusal c = search needs
-
-refused-reading-requires : tie.Need-refused-reading-requires
-refused-reading-requires c κs = search needs
 
 returns : tie.Need-returns
 returns c =
@@ -143,9 +128,6 @@ enum-told c = search needs
 
 with-reading-requires : tie.Need-with-reading-requires
 with-reading-requires c κs = (checked c .intact .state, counts c .room)
-
-accepted-reading-requires : tie.Need-accepted-reading-requires
-accepted-reading-requires c κs = search needs
 
 returns-2 : tie.Need-returns-2
 returns-2 c =
@@ -177,9 +159,6 @@ answer-due-requires c κs =
       due-fit (a .state .count) _ _ (used (a .queries)) (l .count ∙ taken-count (a .value) (a .state) (w .with-reading .result) (is w)) (counts e .answersFit),
       closed-long (w .with-reading .result .partial) _ _ _ _ _ (d .close-open .ensures) (checked e .long),
     )
-
-accepted-reading-requires-2 : tie.Need-accepted-reading-requires-2
-accepted-reading-requires-2 c κs = search needs
 
 same-length : tie.Need-same-length
 same-length c = closing (c .before .before .before) .close-open .kept .1 .1 .0
@@ -223,20 +202,20 @@ pub reading-spec : {M : Type 1} → statement M
 reading-spec =
     tie.close
     (tie.spec
-    enough-requires
-    next-count-requires
-    scan-requires
+    (λ c κs. search needs)
+    (λ c κs. search needs)
+    (λ c κs. search needs)
     judge-reading-requires
-    enum-known-refusal
-    refused-reading-requires
+    (λ c. search needs)
+    (λ c κs. search needs)
     returns
     enum-told
     with-reading-requires
-    accepted-reading-requires
+    (λ c κs. search needs)
     returns-2
     close-open-requires
     answer-due-requires
-    accepted-reading-requires-2
+    (λ c κs. search needs)
     same-length
     same-length-2
     same-length-3

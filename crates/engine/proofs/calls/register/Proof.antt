@@ -46,18 +46,6 @@ closing c = c .before .before .before .before .before .before .before .before .b
 abbrev passed : tie.After-close-open-arg6 → tie.After-enum-told
 passed c = c .before .before .before .before .before .before .before
 
-enough-requires : tie.Need-enough-requires
-enough-requires c κs = search needs
-
-judge-register-requires : tie.Need-judge-register-requires
-judge-register-requires c κs = search needs
-
-enum-known-refusal : tie.Need-enum-known-refusal
-enum-known-refusal c = search needs
-
-refused-requires : tie.Need-refused-requires
-refused-requires c κs = search needs
-
 returns : tie.Need-returns
 returns c =
     let j = c .before .before .before .before in
@@ -80,9 +68,6 @@ close-open-requires c κs =
       sound-ready (s .args .state) (p .intact .state) (omega (arith, s .good .0 .1 .1 .0)),
       p .long,
     )
-
-with-partial-requires : tie.Need-with-partial-requires
-with-partial-requires c κs = search needs
 
 joined-by-requires : tie.Need-joined-by-requires
 joined-by-requires c κs =
@@ -127,15 +112,15 @@ pub register-spec : {M : Type 1} → statement M
 register-spec =
     tie.close
     (tie.spec
-    enough-requires
-    judge-register-requires
-    enum-known-refusal
-    refused-requires
+    (λ c κs. search needs)
+    (λ c κs. search needs)
+    (λ c. search needs)
+    (λ c κs. search needs)
     returns
     enum-told
     horizon-requires
     close-open-requires
-    with-partial-requires
+    (λ c κs. search needs)
     joined-by-requires
     same-length
     same-length-2

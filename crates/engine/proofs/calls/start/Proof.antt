@@ -34,12 +34,6 @@ handed s = machine (s .args .state) (s .args .queries) (board s)
 passed : (x : tie.Else1) → tablesLong (board (startOf (x .before))) ≡ true
 passed x = sym (x .before .enough .ensures) ∙ not-false _ (x .if1 .left)
 
-enough-requires : tie.Need-enough-requires
-enough-requires c κs = search needs
-
-refused-requires : tie.Need-refused-requires
-refused-requires c κs = search needs
-
 returns : tie.Need-returns
 returns c =
     let t = c .before in
@@ -47,12 +41,6 @@ returns c =
 
 zero-requires : tie.Need-zero-requires
 zero-requires c κs = passed (c .before .before .before .before .before .before)
-
-fresh-requires : tie.Need-fresh-requires
-fresh-requires c κs = search needs
-
-empty-requires : tie.Need-empty-requires
-empty-requires c κs = search needs
 
 -- the zeroing, from the end
 abbrev zeroOf : tie.After-empty → tie.After-zero
@@ -89,12 +77,12 @@ pub start-spec : {M : Type 1} → statement M
 start-spec =
     tie.close
     (tie.spec
-    enough-requires
-    refused-requires
+    (λ c κs. search needs)
+    (λ c κs. search needs)
     returns
     zero-requires
-    fresh-requires
-    empty-requires
+    (λ c κs. search needs)
+    (λ c κs. search needs)
     same-length
     same-length-2
     same-length-3

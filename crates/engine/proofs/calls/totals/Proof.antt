@@ -7,18 +7,6 @@ use Rattle.engine.proofs.Refusing.{refused-call}
 use Rattle.engine.proofs.calls.totals.Statement.{statement}
 use Rattle.engine.proofs.calls.totals.Tie as tie
 
-enough-requires : tie.Need-enough-requires
-enough-requires c κs = search needs
-
-damaged-requires : tie.Need-damaged-requires
-damaged-requires c κs = search needs
-
-judge-requires : tie.Need-judge-requires
-judge-requires c κs = search needs
-
-enum-known-refusal : tie.Need-enum-known-refusal
-enum-known-refusal c = search needs
-
 returns : tie.Need-returns
 returns c =
     let j = c .before .before .before in
@@ -34,4 +22,4 @@ returns-2 c =
     accepted-totals _ (all-pass calls.totals _ _ _ (j .before .before .enough .ensures) (j .judge .ensures _ (j .before .damaged .ensures)) (p .enum-told .given .1))
 
 pub totals-spec : {M : Type 1} → statement M
-totals-spec = tie.close (tie.spec enough-requires damaged-requires judge-requires enum-known-refusal returns enum-told returns-2)
+totals-spec = tie.close (tie.spec (λ c κs. search needs) (λ c κs. search needs) (λ c κs. search needs) (λ c. search needs) returns enum-told returns-2)

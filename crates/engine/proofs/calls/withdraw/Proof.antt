@@ -36,18 +36,6 @@ few c =
     let s = began (c .before .before) in
     intact-few (s .args .state .count) (s .args .queries .count) (used (s .args .queries)) (checked c .intact .list)
 
-enough-requires : tie.Need-enough-requires
-enough-requires c κs = search needs
-
-judge-withdraw-requires : tie.Need-judge-withdraw-requires
-judge-withdraw-requires c κs = search needs
-
-enum-known-refusal : tie.Need-enum-known-refusal
-enum-known-refusal c = search needs
-
-refused-requires : tie.Need-refused-requires
-refused-requires c κs = search needs
-
 returns : tie.Need-returns
 returns c =
     let j = c .before .before .before .before in
@@ -58,9 +46,6 @@ enum-told c = search needs
 
 left-by-requires : tie.Need-left-by-requires
 left-by-requires c κs = few c
-
-open-while-any-requires : tie.Need-open-while-any-requires
-open-while-any-requires c κs = search needs
 
 returns-2 : tie.Need-returns-2
 returns-2 c =
@@ -76,12 +61,12 @@ pub withdraw-spec : {M : Type 1} → statement M
 withdraw-spec =
     tie.close
     (tie.spec
-    enough-requires
-    judge-withdraw-requires
-    enum-known-refusal
-    refused-requires
+    (λ c κs. search needs)
+    (λ c κs. search needs)
+    (λ c. search needs)
+    (λ c κs. search needs)
     returns
     enum-told
     left-by-requires
-    open-while-any-requires
+    (λ c κs. search needs)
     returns-2)

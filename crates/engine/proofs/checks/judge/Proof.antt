@@ -13,9 +13,6 @@ returns c = λ queries e. isShort (not-true _ (c .if1 .taken))
 returns-2 : tie.Need-returns-2
 returns-2 c = λ queries e. isDamaged (not-false _ (c .before .if1 .left)) (λ i. true≢false (sym (sym e ∙ c .if2 .taken) ∙ i .list))
 
-fits-requires : tie.Need-fits-requires
-fits-requires c κs = search needs
-
 returns-3 : tie.Need-returns-3
 returns-3 c =
     let f = c .before in
@@ -27,4 +24,4 @@ returns-4 c =
     λ queries e. isJudged (not-false _ (f .before .before .if1 .left)) (record { list = sym e ∙ f .before .if2 .left; state = f .fits2 .ensures .0 (not-false _ (c .if3 .left)) })
 
 pub judge-spec : {M : Type 1} → statement M
-judge-spec = tie.close (tie.spec returns returns-2 fits-requires returns-3 returns-4)
+judge-spec = tie.close (tie.spec returns returns-2 (λ c κs. search needs) returns-3 returns-4)

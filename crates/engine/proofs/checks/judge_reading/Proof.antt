@@ -8,12 +8,6 @@ use Rattle.engine.proofs.Judging.{judged-first, judged-passed, judged-l
 use Rattle.engine.proofs.checks.judge_reading.Statement.{statement}
 use Rattle.engine.proofs.checks.judge_reading.Tie as tie
 
-judge-requires : tie.Need-judge-requires
-judge-requires c κs = search needs
-
-enum-known-refusal : tie.Need-enum-known-refusal
-enum-known-refusal c = search needs
-
 returns : tie.Need-returns
 returns c =
     let j = c .before .before .before in
@@ -37,4 +31,4 @@ returns-2 c =
     judged-last (a .long) (a .state) (a .queries) (firstRefusal (readingChecks (a .state .count) (used (a .queries)) (a .places))) _ _ (j .judge .ensures (a .queries) (j .before .pre)) (c .before .enum-told .given .1) (c .check-reading .ensures)
 
 pub judge-reading-spec : {M : Type 1} → statement M
-judge-reading-spec = tie.close (tie.spec judge-requires enum-known-refusal returns enum-told check-reading-requires returns-2)
+judge-reading-spec = tie.close (tie.spec (λ c κs. search needs) (λ c. search needs) returns enum-told check-reading-requires returns-2)

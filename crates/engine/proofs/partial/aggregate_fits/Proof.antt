@@ -13,17 +13,8 @@ returns c = (λ e. absurd (false≢true e), λ f. absurd (omega arith))
 returns-2 : tie.Need-returns-2
 returns-2 c = (λ e. absurd (false≢true e), λ f. absurd (omega arith))
 
-sub-held : tie.Need-sub-held
-sub-held c = search needs
-
-count-of-requires : tie.Need-count-of-requires
-count-of-requires c κs = search needs
-
 returns-3 : tie.Need-returns-3
 returns-3 c = (λ e. absurd (false≢true e), λ f. absurd (omega (arith, c .before .count-of .ensures, c .if3 .taken, f .short)))
-
-wide-requires : tie.Need-wide-requires
-wide-requires c κs = search needs
 
 mul-is-small : tie.Need-mul-is-small
 mul-is-small c = omega (arith, c .wide .ensures, c .before .if3 .left, c .before .before .count-of .ensures)
@@ -46,10 +37,10 @@ aggregate-fits-spec =
     (tie.spec
     returns
     returns-2
-    sub-held
-    count-of-requires
+    (λ c. search needs)
+    (λ c κs. search needs)
     returns-3
-    wide-requires
+    (λ c κs. search needs)
     mul-is-small
     is-small-requires
     returns-4)

@@ -18,33 +18,6 @@ listed d = d .before .before .before .before .before .before .before .before
 returns : tie.Need-returns
 returns c = (tooShort (c .if1 .taken), (refl, refl))
 
-list-of-requires : tie.Need-list-of-requires
-list-of-requires c κs = search needs
-
-reading-requires : tie.Need-reading-requires
-reading-requires c κs = search needs
-
-same-length : tie.Need-same-length
-same-length c = search needs
-
-same-length-2 : tie.Need-same-length-2
-same-length-2 c = search needs
-
-same-length-3 : tie.Need-same-length-3
-same-length-3 c = search needs
-
-same-length-4 : tie.Need-same-length-4
-same-length-4 c = search needs
-
-same-length-5 : tie.Need-same-length-5
-same-length-5 c = search needs
-
-same-length-6 : tie.Need-same-length-6
-same-length-6 c = search needs
-
-same-length-7 : tie.Need-same-length-7
-same-length-7 c = search needs
-
 returns-2 : tie.Need-returns-2
 returns-2 c =
     let d = called c in
@@ -58,13 +31,13 @@ reading-spec =
     tie.close
     (tie.spec
     returns
-    list-of-requires
-    reading-requires
-    same-length
-    same-length-2
-    same-length-3
-    same-length-4
-    same-length-5
-    same-length-6
-    same-length-7
+    (λ c κs. search needs)
+    (λ c κs. search needs)
+    (λ c. search needs)
+    (λ c. search needs)
+    (λ c. search needs)
+    (λ c. search needs)
+    (λ c. search needs)
+    (λ c. search needs)
+    (λ c. search needs)
     returns-2)

@@ -7,11 +7,8 @@ use Rattle.lent.specs.Copied.{apart}
 use Rattle.lent.proofs.copied.taken_apart.Statement.{statement}
 use Rattle.lent.proofs.copied.taken_apart.Tie as tie
 
-records-written-requires : tie.Need-records-written-requires
-records-written-requires c κs = search needs
-
 returns : tie.Need-returns
 returns c = let a = apart (c .before .before .before .before .args .reply) in ap (λ (n : ℕ). record { reply = a .reply; list = a .list; write = n }) (c .records-written .ensures)
 
 pub taken-apart-spec : {M : Type 1} → statement M
-taken-apart-spec = tie.close (tie.spec records-written-requires returns)
+taken-apart-spec = tie.close (tie.spec (λ c κs. search needs) returns)

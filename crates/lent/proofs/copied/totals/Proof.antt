@@ -8,16 +8,10 @@ use Rattle.lent.proofs.copied.totals.Tie as tie
 returns : tie.Need-returns
 returns c = tooShort (c .if1 .taken)
 
-list-of-requires : tie.Need-list-of-requires
-list-of-requires c κs = search needs
-
-totals-requires : tie.Need-totals-requires
-totals-requires c κs = search needs
-
 returns-2 : tie.Need-returns-2
 returns-2 c =
     let l = c .before in
     made-alone (l .before .before .if1 .left) (l .list-of .ensures) (c .totals .ensures)
 
 pub totals-spec : {M : Type 1} → statement M
-totals-spec = tie.close (tie.spec returns list-of-requires totals-requires returns-2)
+totals-spec = tie.close (tie.spec returns (λ c κs. search needs) (λ c κs. search needs) returns-2)

@@ -4,20 +4,8 @@ use Rattle.lent.proofs.Copying.{cut-short, made}
 use Rattle.lent.proofs.copied.withdraw.Statement.{statement}
 use Rattle.lent.proofs.copied.withdraw.Tie as tie
 
-too-short-requires : tie.Need-too-short-requires
-too-short-requires c κs = search needs
-
 returns : tie.Need-returns
 returns c = cut-short (c .before .if1 .taken) (c .too-short .ensures)
-
-list-of-requires : tie.Need-list-of-requires
-list-of-requires c κs = search needs
-
-withdraw-requires : tie.Need-withdraw-requires
-withdraw-requires c κs = search needs
-
-taken-apart-requires : tie.Need-taken-apart-requires
-taken-apart-requires c κs = search needs
 
 returns-2 : tie.Need-returns-2
 returns-2 c =
@@ -29,9 +17,9 @@ pub withdraw-spec : {M : Type 1} → statement M
 withdraw-spec =
     tie.close
     (tie.spec
-    too-short-requires
+    (λ c κs. search needs)
     returns
-    list-of-requires
-    withdraw-requires
-    taken-apart-requires
+    (λ c κs. search needs)
+    (λ c κs. search needs)
+    (λ c κs. search needs)
     returns-2)

@@ -5,20 +5,8 @@ use Rattle.parse.proofs.Scanning.{last-same}
 use Rattle.parse.proofs.fields.is_last.Statement.{statement}
 use Rattle.parse.proofs.fields.is_last.Tie as tie
 
-next-field-requires : tie.Need-next-field-requires
-next-field-requires c κs = search needs
-
 enum-told : tie.Need-enum-told
 enum-told c = search needs
-
-enum-told-2 : tie.Need-enum-told-2
-enum-told-2 c = search needs
-
-enum-told-3 : tie.Need-enum-told-3
-enum-told-3 c = search needs
-
-enum-told-4 : tie.Need-enum-told-4
-enum-told-4 c = search needs
 
 returns : tie.Need-returns
 returns c = last-same _ _ _ _ _ (c .before .before .enum-told .given .1) (c .before .before .before .before .next-field .ensures .0) (c .enum-told2 .given .1)
@@ -33,11 +21,11 @@ pub is-last-spec : {M : Type 1} → statement M
 is-last-spec =
     tie.close
     (tie.spec
-    next-field-requires
+    (λ c κs. search needs)
     enum-told
-    enum-told-2
-    enum-told-3
-    enum-told-4
+    (λ c. search needs)
+    (λ c. search needs)
+    (λ c. search needs)
     returns
     returns-2
     returns-3)

@@ -8,14 +8,8 @@ use Rattle.parse.proofs.fields.step_at.Tie as tie
 returns : tie.Need-returns
 returns c = beyond-is _ _ (c .if1 .taken)
 
-find-byte-requires : tie.Need-find-byte-requires
-find-byte-requires c κs = search needs
-
-add-t4 : tie.Need-add-t4
-add-t4 c = search needs
-
 returns-2 : tie.Need-returns-2
 returns-2 c = text-is _ _ _ (omega arith) (c .find-byte .ensures .1)
 
 pub step-at-spec : {M : Type 1} → statement M
-step-at-spec = tie.close (tie.spec returns find-byte-requires add-t4 returns-2)
+step-at-spec = tie.close (tie.spec returns (λ c κs. search needs) (λ c. search needs) returns-2)

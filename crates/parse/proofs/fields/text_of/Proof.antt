@@ -6,9 +6,6 @@ use Rattle.parse.specs.declared.fields.Field.the-variants.{Text}
 use Rattle.parse.proofs.fields.text_of.Statement.{statement}
 use Rattle.parse.proofs.fields.text_of.Tie as tie
 
-enum-known-field : tie.Need-enum-known-field
-enum-known-field c = search needs
-
 -- where the field starts and ends, in the line
 stands : (c : tie.After-known-told) → InLine (c .before .before .before .args .line .now) (Text (c .before .field .given .0 .0) (c .before .field .given .0 .1 .0))
 stands c = subst (InLine (c .before .before .before .args .line .now)) (c .before .field .given .1) (c .before .before .before .pre)
@@ -25,32 +22,17 @@ part-result-end c = stands c .1
 returns : tie.Need-returns
 returns c = sym (ap (bytesOf (c .before .before .before .before .args .line .now)) (c .before .before .field .given .1))
 
-enum-told : tie.Need-enum-told
-enum-told c = search needs
-
-sub-result-2 : tie.Need-sub-result-2
-sub-result-2 c = search needs
-
-part-result-start-2 : tie.Need-part-result-start-2
-part-result-start-2 c = search needs
-
-part-result-end-2 : tie.Need-part-result-end-2
-part-result-end-2 c = search needs
-
-returns-2 : tie.Need-returns-2
-returns-2 c = search needs
-
 pub text-of-spec : {M : Type 1} → statement M
 text-of-spec =
     tie.close
     (tie.spec
-    enum-known-field
+    (λ c. search needs)
     sub-result
     part-result-start
     part-result-end
     returns
-    enum-told
-    sub-result-2
-    part-result-start-2
-    part-result-end-2
-    returns-2)
+    (λ c. search needs)
+    (λ c. search needs)
+    (λ c. search needs)
+    (λ c. search needs)
+    (λ c. search needs))

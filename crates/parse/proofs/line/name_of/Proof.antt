@@ -9,9 +9,6 @@ use Rattle.parse.proofs.line.name_of.Tie as tie
 returns : tie.Need-returns
 returns c = name-unknown (c .before .args .first .now) (c .if1 .taken)
 
-shared-slice-read-b : tie.Need-shared-slice-read-b
-shared-slice-read-b c = search needs
-
 returns-2 : tie.Need-returns-2
 returns-2 c = name-is (c .before .before .before .args .first .now) (c .before .before .if1 .left) (eq-eqb _ _ (c .if2 .taken)) refl refl
 
@@ -28,4 +25,4 @@ returns-5 c =
 
 pub name-of-spec : {M : Type 1} → statement M
 name-of-spec =
-    tie.close (tie.spec returns shared-slice-read-b returns-2 returns-3 returns-4 returns-5)
+    tie.close (tie.spec returns (λ c. search needs) returns-2 returns-3 returns-4 returns-5)

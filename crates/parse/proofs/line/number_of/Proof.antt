@@ -5,15 +5,9 @@ use Rattle.parse.specs.Numbers.{unsignedOf}
 use Rattle.parse.proofs.line.number_of.Statement.{statement}
 use Rattle.parse.proofs.line.number_of.Tie as tie
 
-text-of-requires : tie.Need-text-of-requires
-text-of-requires c κs = search needs
-
-unsigned-number-requires : tie.Need-unsigned-number-requires
-unsigned-number-requires c κs = search needs
-
 returns : tie.Need-returns
 unfolding unsignedOf
 returns c = c .unsigned-number .ensures ∙ ap unsignedOf (c .before .text-of .ensures)
 
 pub number-of-spec : {M : Type 1} → statement M
-number-of-spec = tie.close (tie.spec text-of-requires unsigned-number-requires returns)
+number-of-spec = tie.close (tie.spec (λ c κs. search needs) (λ c κs. search needs) returns)

@@ -5,14 +5,8 @@ use Rattle.parse.specs.Lines.{oneNumber}
 use Rattle.parse.proofs.line.one_number.Statement.{statement}
 use Rattle.parse.proofs.line.one_number.Tie as tie
 
-enum-known-a : tie.Need-enum-known-a
-enum-known-a c = search needs
-
 enum-told : tie.Need-enum-told
 enum-told c = search needs
-
-enum-told-2 : tie.Need-enum-told-2
-enum-told-2 c = search needs
 
 returns : tie.Need-returns
 returns c = sym (ap oneNumber (c .before .a .given .1))
@@ -24,4 +18,4 @@ returns-3 : tie.Need-returns-3
 returns-3 c = sym (ap oneNumber (c .enum-told2 .given .1))
 
 pub one-number-spec : {M : Type 1} → statement M
-one-number-spec = tie.close (tie.spec enum-known-a enum-told enum-told-2 returns returns-2 returns-3)
+one-number-spec = tie.close (tie.spec (λ c. search needs) enum-told (λ c. search needs) returns returns-2 returns-3)

@@ -7,14 +7,8 @@ use Rattle.parse.specs.declared.line.Line.{Line}
 use Rattle.parse.proofs.line.one_signed.Statement.{statement}
 use Rattle.parse.proofs.line.one_signed.Tie as tie
 
-enum-known-a : tie.Need-enum-known-a
-enum-known-a c = search needs
-
 enum-told : tie.Need-enum-told
 enum-told c = search needs
-
-enum-told-2 : tie.Need-enum-told-2
-enum-told-2 c = search needs
 
 returns : tie.Need-returns
 returns c = ap Line.Reading (toZ-ofZ (record { sfits = c .known-told .given .0 .1 })) ∙ sym (ap oneSigned (c .before .a .given .1))
@@ -27,4 +21,4 @@ returns-3 c = sym (ap oneSigned (c .enum-told2 .given .1))
 
 pub one-signed-spec : {M : Type 1} → statement M
 one-signed-spec =
-    tie.close (tie.spec enum-known-a enum-told enum-told-2 returns returns-2 returns-3)
+    tie.close (tie.spec (λ c. search needs) enum-told (λ c. search needs) returns returns-2 returns-3)

@@ -10,35 +10,11 @@ use Rattle.parse.proofs.line.parse_line.Tie as tie
 returns : tie.Need-returns
 returns c = too-long _ (c .if1 .taken)
 
-next-field-requires : tie.Need-next-field-requires
-next-field-requires c κs = search needs
-
 text-of-requires : tie.Need-text-of-requires
 text-of-requires c κs = field-within _ _ _ (c .next-field .ensures .0)
 
-name-of-requires : tie.Need-name-of-requires
-name-of-requires c κs = search needs
-
 enum-told : tie.Need-enum-told
 enum-told c = search needs
-
-register-line-requires : tie.Need-register-line-requires
-register-line-requires c κs = search needs
-
-enum-told-2 : tie.Need-enum-told-2
-enum-told-2 c = search needs
-
-withdraw-line-requires : tie.Need-withdraw-line-requires
-withdraw-line-requires c κs = search needs
-
-enum-told-3 : tie.Need-enum-told-3
-enum-told-3 c = search needs
-
-reading-line-requires : tie.Need-reading-line-requires
-reading-line-requires c κs = search needs
-
-enum-told-4 : tie.Need-enum-told-4
-enum-told-4 c = search needs
 
 returns-2 : tie.Need-returns-2
 returns-2 c = c .register-line .ensures ∙ named-is _ _ _ _ _ (c .before .before .before .before .before .before .if1 .left) (c .before .before .before .before .before .next-field .ensures) (c .before .before .before .name-of .ensures ∙ ap nameOf (c .before .before .before .before .text-of .ensures)) (c .before .enum-told .given .1)
@@ -57,16 +33,16 @@ parse-line-spec =
     tie.close
     (tie.spec
     returns
-    next-field-requires
+    (λ c κs. search needs)
     text-of-requires
-    name-of-requires
+    (λ c κs. search needs)
     enum-told
-    register-line-requires
-    enum-told-2
-    withdraw-line-requires
-    enum-told-3
-    reading-line-requires
-    enum-told-4
+    (λ c κs. search needs)
+    (λ c. search needs)
+    (λ c κs. search needs)
+    (λ c. search needs)
+    (λ c κs. search needs)
+    (λ c. search needs)
     returns-2
     returns-3
     returns-4

@@ -7,20 +7,8 @@ use Rattle.parse.proofs.Reading.{reading-is, not-one}
 use Rattle.parse.proofs.line.reading_line.Statement.{statement}
 use Rattle.parse.proofs.line.reading_line.Tie as tie
 
-next-field-requires : tie.Need-next-field-requires
-next-field-requires c κs = search needs
-
-is-last-requires : tie.Need-is-last-requires
-is-last-requires c κs = search needs
-
 text-of-requires : tie.Need-text-of-requires
 text-of-requires c κs = field-within _ _ _ (c .before .before .next-field .ensures .0)
-
-signed-number-requires : tie.Need-signed-number-requires
-signed-number-requires c κs = search needs
-
-one-signed-requires : tie.Need-one-signed-requires
-one-signed-requires c κs = search needs
 
 returns : tie.Need-returns
 returns c =
@@ -34,10 +22,10 @@ pub reading-line-spec : {M : Type 1} → statement M
 reading-line-spec =
     tie.close
     (tie.spec
-    next-field-requires
-    is-last-requires
+    (λ c κs. search needs)
+    (λ c κs. search needs)
     text-of-requires
-    signed-number-requires
-    one-signed-requires
+    (λ c κs. search needs)
+    (λ c κs. search needs)
     returns
     returns-2)

@@ -6,21 +6,6 @@ use Rattle.parse.proofs.Reading.{register-is, not-four}
 use Rattle.parse.proofs.line.register_line.Statement.{statement}
 use Rattle.parse.proofs.line.register_line.Tie as tie
 
-next-field-requires : tie.Need-next-field-requires
-next-field-requires c κs = search needs
-
-next-field-requires-2 : tie.Need-next-field-requires-2
-next-field-requires-2 c κs = search needs
-
-next-field-requires-3 : tie.Need-next-field-requires-3
-next-field-requires-3 c κs = search needs
-
-next-field-requires-4 : tie.Need-next-field-requires-4
-next-field-requires-4 c κs = search needs
-
-is-last-requires : tie.Need-is-last-requires
-is-last-requires c κs = search needs
-
 number-of-requires : tie.Need-number-of-requires
 number-of-requires c κs = field-within _ _ _ (c .before .before .before .before .before .next-field .ensures .0)
 
@@ -32,9 +17,6 @@ number-of-requires-3 c κs = field-within _ _ _ (c .before .before .before .befo
 
 number-of-requires-4 : tie.Need-number-of-requires-4
 number-of-requires-4 c κs = field-within _ _ _ (c .before .before .before .before .before .next-field4 .ensures .0)
-
-four-numbers-requires : tie.Need-four-numbers-requires
-four-numbers-requires c κs = search needs
 
 returns : tie.Need-returns
 returns c =
@@ -52,15 +34,15 @@ pub register-line-spec : {M : Type 1} → statement M
 register-line-spec =
     tie.close
     (tie.spec
-    next-field-requires
-    next-field-requires-2
-    next-field-requires-3
-    next-field-requires-4
-    is-last-requires
+    (λ c κs. search needs)
+    (λ c κs. search needs)
+    (λ c κs. search needs)
+    (λ c κs. search needs)
+    (λ c κs. search needs)
     number-of-requires
     number-of-requires-2
     number-of-requires-3
     number-of-requires-4
-    four-numbers-requires
+    (λ c κs. search needs)
     returns
     returns-2)

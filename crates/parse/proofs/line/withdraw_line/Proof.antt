@@ -6,17 +6,8 @@ use Rattle.parse.proofs.Reading.{withdraw-is, not-one}
 use Rattle.parse.proofs.line.withdraw_line.Statement.{statement}
 use Rattle.parse.proofs.line.withdraw_line.Tie as tie
 
-next-field-requires : tie.Need-next-field-requires
-next-field-requires c κs = search needs
-
-is-last-requires : tie.Need-is-last-requires
-is-last-requires c κs = search needs
-
 number-of-requires : tie.Need-number-of-requires
 number-of-requires c κs = field-within _ _ _ (c .before .before .next-field .ensures .0)
-
-one-number-requires : tie.Need-one-number-requires
-one-number-requires c κs = search needs
 
 returns : tie.Need-returns
 returns c =
@@ -30,9 +21,9 @@ pub withdraw-line-spec : {M : Type 1} → statement M
 withdraw-line-spec =
     tie.close
     (tie.spec
-    next-field-requires
-    is-last-requires
+    (λ c κs. search needs)
+    (λ c κs. search needs)
     number-of-requires
-    one-number-requires
+    (λ c κs. search needs)
     returns
     returns-2)

@@ -4,9 +4,6 @@ use Rattle.parse.proofs.Digits.{zero-less, less-is, fits-neg, from-bits
 use Rattle.parse.proofs.numbers.negative_i32.Statement.{statement}
 use Rattle.parse.proofs.numbers.negative_i32.Tie as tie
 
-cast-z : tie.Need-cast-z
-cast-z c = search needs
-
 sub-z : tie.Need-sub-z
 sub-z c = zero-less _ (c .pre)
 
@@ -17,4 +14,4 @@ returns : tie.Need-returns
 returns c = from-bits (less-is _ (c .pre)) (fits-neg _ (c .pre))
 
 pub negative-i32-spec : {M : Type 1} → statement M
-negative-i32-spec = tie.close (tie.spec cast-z sub-z cast-result returns)
+negative-i32-spec = tie.close (tie.spec (λ c. search needs) sub-z cast-result returns)

@@ -6,11 +6,8 @@ use borrow.Author.Needs.{needs}
 use Rattle.parse.proofs.numbers.positive_i32.Statement.{statement}
 use Rattle.parse.proofs.numbers.positive_i32.Tie as tie
 
-cast-result : tie.Need-cast-result
-cast-result c = search needs
-
 returns : tie.Need-returns
 returns c = toZ-pos w32 (omega arith)
 
 pub positive-i32-spec : {M : Type 1} → statement M
-positive-i32-spec = tie.close (tie.spec cast-result returns)
+positive-i32-spec = tie.close (tie.spec (λ c. search needs) returns)

@@ -9,21 +9,6 @@ use Rattle.parse.proofs.numbers.signed_number.Tie as tie
 returns : tie.Need-returns
 returns c = signed-none _ (c .if1 .taken)
 
-shared-slice-read-if2 : tie.Need-shared-slice-read-if2
-shared-slice-read-if2 c = search needs
-
-sub-unsigned-number : tie.Need-sub-unsigned-number
-sub-unsigned-number c = search needs
-
-part-unsigned-number-start : tie.Need-part-unsigned-number-start
-part-unsigned-number-start c = search needs
-
-part-unsigned-number-end : tie.Need-part-unsigned-number-end
-part-unsigned-number-end c = search needs
-
-unsigned-number-requires : tie.Need-unsigned-number-requires
-unsigned-number-requires c κs = search needs
-
 with-minus-requires : tie.Need-with-minus-requires
 with-minus-requires c κs = rw (c .unsigned-number .ensures) (number-below _ _)
 
@@ -32,9 +17,6 @@ returns-2 c =
     c .with-minus .ensures
     ∙ ap negative (c .before .unsigned-number .ensures ∙ ap (numberOf 2147483648) (part-end 1 (c .before .before .before .before .before .before .before .args .s .now)))
     ∙ signed-minus _ (c .before .before .before .before .before .if1 .left) (c .before .before .before .if2 .taken)
-
-unsigned-number-requires-2 : tie.Need-unsigned-number-requires-2
-unsigned-number-requires-2 c κs = search needs
 
 without-sign-requires : tie.Need-without-sign-requires
 without-sign-requires c κs = rw (c .unsigned-number2 .ensures) (number-below _ _)
@@ -47,13 +29,13 @@ signed-number-spec =
     tie.close
     (tie.spec
     returns
-    shared-slice-read-if2
-    sub-unsigned-number
-    part-unsigned-number-start
-    part-unsigned-number-end
-    unsigned-number-requires
+    (λ c. search needs)
+    (λ c. search needs)
+    (λ c. search needs)
+    (λ c. search needs)
+    (λ c κs. search needs)
     with-minus-requires
     returns-2
-    unsigned-number-requires-2
+    (λ c κs. search needs)
     without-sign-requires
     returns-3)

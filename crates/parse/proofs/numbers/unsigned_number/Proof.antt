@@ -7,17 +7,8 @@ use Rattle.parse.proofs.Digits.{number-malformed, number-is, number-wid
 use Rattle.parse.proofs.numbers.unsigned_number.Statement.{statement}
 use Rattle.parse.proofs.numbers.unsigned_number.Tie as tie
 
-is-written-requires : tie.Need-is-written-requires
-is-written-requires c κs = search needs
-
 returns : tie.Need-returns
 returns c = number-malformed _ _ (sym (c .before .is-written .ensures) ∙ not-true _ (c .if1 .taken))
-
-add-value : tie.Need-add-value
-add-value c = search needs
-
-value-requires : tie.Need-value-requires
-value-requires c κs = search needs
 
 cast-t8 : tie.Need-cast-t8
 cast-t8 c = omega arith
@@ -30,4 +21,4 @@ returns-3 c = number-wide _ _ _ (sym (c .before .before .before .is-written .ens
 
 pub unsigned-number-spec : {M : Type 1} → statement M
 unsigned-number-spec =
-    tie.close (tie.spec is-written-requires returns add-value value-requires cast-t8 returns-2 returns-3)
+    tie.close (tie.spec (λ c κs. search needs) returns (λ c. search needs) (λ c κs. search needs) cast-t8 returns-2 returns-3)

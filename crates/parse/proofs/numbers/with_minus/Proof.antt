@@ -10,20 +10,8 @@ use Rattle.parse.proofs.Digits.{fits-neg, from-bits}
 use Rattle.parse.proofs.numbers.with_minus.Statement.{statement}
 use Rattle.parse.proofs.numbers.with_minus.Tie as tie
 
-enum-known-n : tie.Need-enum-known-n
-enum-known-n c = search needs
-
 negative-i32-requires : tie.Need-negative-i32-requires
 negative-i32-requires c κs = rw (c .before .before .n .given .1) at (c .before .before .before .before .pre)
-
-enum-told : tie.Need-enum-told
-enum-told c = search needs
-
-enum-told-2 : tie.Need-enum-told-2
-enum-told-2 c = search needs
-
-returns : tie.Need-returns
-returns c = search needs
 
 returns-2 : tie.Need-returns-2
 returns-2 c =
@@ -31,21 +19,15 @@ returns-2 c =
     ap Signed.Is (from-bits (c .negative-i32 .ensures) (fits-neg m (rw (c .before .before .before .n .given .1) at (c .before .before .before .before .before .pre))))
     ∙ sym (ap negative (c .before .before .before .n .given .1) ∙ ap (λ t. cond t Signed.Malformed (Signed.Is (negℤ (pos m)))) (ne-eqb m 0 (c .before .if1 .left)))
 
-returns-3 : tie.Need-returns-3
-returns-3 c = search needs
-
-returns-4 : tie.Need-returns-4
-returns-4 c = search needs
-
 pub with-minus-spec : {M : Type 1} → statement M
 with-minus-spec =
     tie.close
     (tie.spec
-    enum-known-n
+    (λ c. search needs)
     negative-i32-requires
-    enum-told
-    enum-told-2
-    returns
+    (λ c. search needs)
+    (λ c. search needs)
+    (λ c. search needs)
     returns-2
-    returns-3
-    returns-4)
+    (λ c. search needs)
+    (λ c. search needs))

@@ -7,28 +7,13 @@ use Rattle.parse.proofs.Digits.{fits-pos, from-bits}
 use Rattle.parse.proofs.numbers.without_sign.Statement.{statement}
 use Rattle.parse.proofs.numbers.without_sign.Tie as tie
 
-enum-known-n : tie.Need-enum-known-n
-enum-known-n c = search needs
-
 positive-i32-requires : tie.Need-positive-i32-requires
 positive-i32-requires c κs = rw (c .before .n .given .1) at (c .before .before .before .pre)
-
-enum-told : tie.Need-enum-told
-enum-told c = search needs
-
-enum-told-2 : tie.Need-enum-told-2
-enum-told-2 c = search needs
 
 returns : tie.Need-returns
 returns c = ap Signed.Is (from-bits (c .positive-i32 .ensures) (fits-pos _ (rw (c .before .before .n .given .1) at (c .before .before .before .before .pre)))) ∙ sym (ap positive (c .before .before .n .given .1))
 
-returns-2 : tie.Need-returns-2
-returns-2 c = search needs
-
-returns-3 : tie.Need-returns-3
-returns-3 c = search needs
-
 pub without-sign-spec : {M : Type 1} → statement M
 without-sign-spec =
     tie.close
-    (tie.spec enum-known-n positive-i32-requires enum-told enum-told-2 returns returns-2 returns-3)
+    (tie.spec (λ c. search needs) positive-i32-requires (λ c. search needs) (λ c. search needs) returns (λ c. search needs) (λ c. search needs))

@@ -17,12 +17,6 @@ room e = sym (e .before .room-for .ensures) ∙ not-false _ (e .if1 .left)
 no-room-there : (e : tie.Then1) → roomFor (length (e .before .before .before .before .before .before .before .args .state .now)) (length (e .before .before .before .before .before .before .before .args .queries .now)) ≡ false
 no-room-there e = sym (e .before .room-for .ensures) ∙ not-true _ (e .if1 .taken)
 
-room-for-requires : tie.Need-room-for-requires
-room-for-requires c κs = search needs
-
-no-room-requires : tie.Need-no-room-requires
-no-room-requires c κs = search needs
-
 returns : tie.Need-returns
 returns c = rw (c .no-room .ensures) (no-room-totals _ _ _ _ (no-room-there (c .before)))
 
@@ -31,12 +25,6 @@ load-state-requires c κs = room-state _ _ (room c)
 
 load-list-requires : tie.Need-load-list-requires
 load-list-requires c κs = let e = c .before in (room-list _ _ (room e), room-state _ _ (room e))
-
-totals-requires : tie.Need-totals-requires
-totals-requires c κs = search needs
-
-put-totals-requires : tie.Need-put-totals-requires
-put-totals-requires c κs = search needs
 
 returns-2 : tie.Need-returns-2
 returns-2 c =
@@ -49,11 +37,11 @@ pub pchelodar-totals-spec : {M : Type 1} → statement M
 pchelodar-totals-spec =
     tie.close
     (tie.spec
-    room-for-requires
-    no-room-requires
+    (λ c κs. search needs)
+    (λ c κs. search needs)
     returns
     load-state-requires
     load-list-requires
-    totals-requires
-    put-totals-requires
+    (λ c κs. search needs)
+    (λ c κs. search needs)
     returns-2)

@@ -5,29 +5,11 @@ use borrow.Author.Needs.{needs}
 use Rattle.pchelodar_c.proofs.calls.put_back.Statement.{statement}
 use Rattle.pchelodar_c.proofs.calls.put_back.Tie as tie
 
-enum-known-verdict : tie.Need-enum-known-verdict
-enum-known-verdict c = search needs
-
-number-requires : tie.Need-number-requires
-number-requires c κs = search needs
-
 enum-told : tie.Need-enum-told
 enum-told c = search needs
 
-store-list-requires : tie.Need-store-list-requires
-store-list-requires c κs = search needs
-
-store-state-requires : tie.Need-store-state-requires
-store-state-requires c κs = search needs
-
 returns : tie.Need-returns
 returns c = rw (c .number .ensures) (nothingBack _ (c .before .before .verdict .given .1))
-
-same-length : tie.Need-same-length
-same-length c = search needs
-
-same-length-2 : tie.Need-same-length-2
-same-length-2 c = search needs
 
 returns-2 : tie.Need-returns-2
 returns-2 c =
@@ -43,12 +25,12 @@ pub put-back-spec : {M : Type 1} → statement M
 put-back-spec =
     tie.close
     (tie.spec
-    enum-known-verdict
-    number-requires
+    (λ c. search needs)
+    (λ c κs. search needs)
     enum-told
-    store-list-requires
-    store-state-requires
+    (λ c κs. search needs)
+    (λ c κs. search needs)
     returns
-    same-length
-    same-length-2
+    (λ c. search needs)
+    (λ c. search needs)
     returns-2)

@@ -12,16 +12,10 @@ use Rattle.print.proofs.text.put_field.Tie as tie
 short : (s : tie.Start) → length (decimal (s .args .n)) ≤ 20
 short s = decimal-twenty (s .args .n) (s .fits .n .fits)
 
-put-byte-requires : tie.Need-put-byte-requires
-put-byte-requires c κs = search needs
-
 put-digits-requires : tie.Need-put-digits-requires
 put-digits-requires c κs =
     let tab = c .before .before .before in
     omega (arith, short (tab .before .before .before), tab .put-byte .ensures .ends, tab .put-byte .ensures .asLong)
-
-same-length : tie.Need-same-length
-same-length c = search needs
 
 returns : tie.Need-returns
 returns c =
@@ -32,4 +26,4 @@ returns c =
     )
 
 pub put-field-spec : {M : Type 1} → statement M
-put-field-spec = tie.close (tie.spec put-byte-requires put-digits-requires same-length returns)
+put-field-spec = tie.close (tie.spec (λ c κs. search needs) put-digits-requires (λ c. search needs) returns)

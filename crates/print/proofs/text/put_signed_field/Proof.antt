@@ -39,18 +39,6 @@ plain e = ap decimal (size-is (e .before)) ∙ plain-text (number (e .before)) (
 
 -- ---- the needs
 
-magnitude-requires : tie.Need-magnitude-requires
-magnitude-requires c κs = search needs
-
-is-negative-requires : tie.Need-is-negative-requires
-is-negative-requires c κs = search needs
-
-put-byte-requires : tie.Need-put-byte-requires
-put-byte-requires c κs = search needs
-
-put-byte-requires-2 : tie.Need-put-byte-requires-2
-put-byte-requires-2 c κs = search needs
-
 put-digits-requires : tie.Need-put-digits-requires
 put-digits-requires c κs =
     let sign = c .before .before .before in
@@ -65,9 +53,6 @@ put-digits-requires c κs =
       tab .before .before .before .before .before .before .pre,
     )
 
-same-length : tie.Need-same-length
-same-length c = search needs
-
 returns : tie.Need-returns
 returns c =
     let digits = c .before .before in
@@ -79,16 +64,10 @@ returns c =
       omega (arith, short (tab .before .before .before), tab .put-byte .ensures .ends, sign .put-byte2 .ensures .ends, digits .put-digits .ensures .ends),
     )
 
-put-byte-requires-3 : tie.Need-put-byte-requires-3
-put-byte-requires-3 c κs = search needs
-
 put-digits-requires-2 : tie.Need-put-digits-requires-2
 put-digits-requires-2 c κs =
     let tab = c .before .before .before in
     omega (arith, short (tab .before .before .before), tab .put-byte3 .ensures .ends, tab .put-byte3 .ensures .asLong, tab .before .before .before .before .before .before .pre)
-
-same-length-2 : tie.Need-same-length-2
-same-length-2 c = search needs
 
 returns-2 : tie.Need-returns-2
 returns-2 c =
@@ -102,14 +81,14 @@ pub put-signed-field-spec : {M : Type 1} → statement M
 put-signed-field-spec =
     tie.close
     (tie.spec
-    magnitude-requires
-    is-negative-requires
-    put-byte-requires
-    put-byte-requires-2
+    (λ c κs. search needs)
+    (λ c κs. search needs)
+    (λ c κs. search needs)
+    (λ c κs. search needs)
     put-digits-requires
-    same-length
+    (λ c. search needs)
     returns
-    put-byte-requires-3
+    (λ c κs. search needs)
     put-digits-requires-2
-    same-length-2
+    (λ c. search needs)
     returns-2)

@@ -7,11 +7,8 @@ use Rattle.registry.specs.Records.{recordLimit}
 use Rattle.records.proofs.copy.none.Statement.{statement}
 use Rattle.records.proofs.copy.none.Tie as tie
 
-unused-requires : tie.Need-unused-requires
-unused-requires c κs = search needs
-
 returns : tie.Need-returns
 returns c = ap (λ (q : Query). replicate recordLimit q) (c .unused .ensures)
 
 pub none-spec : {M : Type 1} → statement M
-none-spec = tie.close (tie.spec unused-requires returns)
+none-spec = tie.close (tie.spec (λ c κs. search needs) returns)

@@ -15,22 +15,10 @@ use Rattle.records.proofs.edited.append.Tie as tie
 abbrev whole : ℕ → List Query → Edited
 whole n qs = record { count = n; list = qs; write = recordLimit }
 
-capped-requires : tie.Need-capped-requires
-capped-requires c κs = search needs
-
-same-requires : tie.Need-same-requires
-same-requires c κs = search needs
-
 returns : tie.Need-returns
 returns c =
     let a = c .before .before .before .args in
     rw (le-ltb (a .count) (min (a .places) recordLimit) (omega arith)) (c .same .ensures)
-
-joined-by-requires : tie.Need-joined-by-requires
-joined-by-requires c κs = search needs
-
-changed-requires : tie.Need-changed-requires
-changed-requires c κs = search needs
 
 returns-2 : tie.Need-returns-2
 returns-2 c =
@@ -39,4 +27,4 @@ returns-2 c =
     rw (lt-ltb (a .count) (min (a .places) recordLimit) (omega arith)) (c .changed .ensures ∙ ap₂ whole (j .0) (j .1 .1 .1))
 
 pub append-spec : {M : Type 1} → statement M
-append-spec = tie.close (tie.spec capped-requires same-requires returns joined-by-requires changed-requires returns-2)
+append-spec = tie.close (tie.spec (λ c κs. search needs) (λ c κs. search needs) returns (λ c κs. search needs) (λ c κs. search needs) returns-2)

@@ -7,16 +7,10 @@ use Rattle.registry.specs.Records.{placeOf}
 use Rattle.records.proofs.edited.find.Statement.{statement}
 use Rattle.records.proofs.edited.find.Tie as tie
 
-fitting-requires : tie.Need-fitting-requires
-fitting-requires c κs = search needs
-
-find-requires : tie.Need-find-requires
-find-requires c κs = search needs
-
 returns : tie.Need-returns
 returns c =
     let a = c .before .before .args in
     c .find .ensures ∙ ap (λ (k : ℕ). placeOf (a .number) (take k (a .list))) (c .before .fitting .ensures)
 
 pub find-spec : {M : Type 1} → statement M
-find-spec = tie.close (tie.spec fitting-requires find-requires returns)
+find-spec = tie.close (tie.spec (λ c κs. search needs) (λ c κs. search needs) returns)

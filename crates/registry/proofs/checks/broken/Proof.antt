@@ -5,14 +5,8 @@ use Rattle.registry.proofs.Damage.{passed-broken, refused-broken}
 use Rattle.registry.proofs.checks.broken.Statement.{statement}
 use Rattle.registry.proofs.checks.broken.Tie as tie
 
-check-fields-requires : tie.Need-check-fields-requires
-check-fields-requires c κs = search needs
-
 enum-told : tie.Need-enum-told
 enum-told c = search needs
-
-enum-told-2 : tie.Need-enum-told-2
-enum-told-2 c = search needs
 
 returns : tie.Need-returns
 returns c =
@@ -25,4 +19,4 @@ returns-2 c =
     refused-broken (a .n) (a .q) _ (c .before .before .check-fields .ensures) _ (c .enum-told2 .given .1)
 
 pub broken-spec : {M : Type 1} → statement M
-broken-spec = tie.close (tie.spec check-fields-requires enum-told enum-told-2 returns returns-2)
+broken-spec = tie.close (tie.spec (λ c κs. search needs) enum-told (λ c. search needs) returns returns-2)

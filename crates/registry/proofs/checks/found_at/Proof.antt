@@ -5,19 +5,10 @@ use borrow.Author.Needs.{needs}
 use Rattle.registry.proofs.checks.found_at.Statement.{statement}
 use Rattle.registry.proofs.checks.found_at.Tie as tie
 
-both-requires : tie.Need-both-requires
-both-requires c κs = search needs
-
-both-requires-2 : tie.Need-both-requires-2
-both-requires-2 c κs = search needs
-
-either-requires : tie.Need-either-requires
-either-requires c κs = search needs
-
 returns : tie.Need-returns
 returns c =
     let a = c .before .before .before .args in
     c .either .ensures ∙ ap (λ (b : Bool). a .found || b) (c .before .both2 .ensures ∙ ap (λ (b : Bool). b && a .same) (c .before .before .both .ensures))
 
 pub found-at-spec : {M : Type 1} → statement M
-found-at-spec = tie.close (tie.spec both-requires both-requires-2 either-requires returns)
+found-at-spec = tie.close (tie.spec (λ c κs. search needs) (λ c κs. search needs) (λ c κs. search needs) returns)

@@ -3,14 +3,8 @@ use borrow.Author.Needs.{needs}
 use Rattle.registry.proofs.scan.edge_or.Statement.{statement}
 use Rattle.registry.proofs.scan.edge_or.Tie as tie
 
-returns : tie.Need-returns
-returns c = search needs
-
-edge-requires : tie.Need-edge-requires
-edge-requires c κs = search needs
-
 returns-2 : tie.Need-returns-2
 returns-2 c = rw (c .before .if1 .left) (c .edge .ensures)
 
 pub edge-or-spec : {M : Type 1} → statement M
-edge-or-spec = tie.close (tie.spec returns edge-requires returns-2)
+edge-or-spec = tie.close (tie.spec (λ c. search needs) (λ c κs. search needs) returns-2)

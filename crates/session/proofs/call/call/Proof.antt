@@ -12,39 +12,6 @@ registerOf c = c .before .before .before .before .before .before .before .before
 abbrev readingOf : tie.After-with-queries → tie.After-reading
 readingOf c = c .before .before .before .before .before .before .before .before .before .before .before
 
-enum-known-line : tie.Need-enum-known-line
-enum-known-line c = search needs
-
-register-requires : tie.Need-register-requires
-register-requires c κs = search needs
-
-without-answers-requires : tie.Need-without-answers-requires
-without-answers-requires c κs = search needs
-
-enum-known-line-2 : tie.Need-enum-known-line-2
-enum-known-line-2 c = search needs
-
-withdraw-requires : tie.Need-withdraw-requires
-withdraw-requires c κs = search needs
-
-without-answers-requires-2 : tie.Need-without-answers-requires-2
-without-answers-requires-2 c κs = search needs
-
-enum-known-line-3 : tie.Need-enum-known-line-3
-enum-known-line-3 c = search needs
-
-reading-requires : tie.Need-reading-requires
-reading-requires c κs = search needs
-
-with-queries-requires : tie.Need-with-queries-requires
-with-queries-requires c κs = search needs
-
-enum-known-line-4 : tie.Need-enum-known-line-4
-enum-known-line-4 c = search needs
-
-not-called-requires : tie.Need-not-called-requires
-not-called-requires c κs = search needs
-
 same-length : tie.Need-same-length
 same-length c = registerOf c .register .kept .1 .1 .0
 
@@ -128,17 +95,17 @@ pub call-spec : {M : Type 1} → statement M
 call-spec =
     tie.close
     (tie.spec
-    enum-known-line
-    register-requires
-    without-answers-requires
-    enum-known-line-2
-    withdraw-requires
-    without-answers-requires-2
-    enum-known-line-3
-    reading-requires
-    with-queries-requires
-    enum-known-line-4
-    not-called-requires
+    (λ c. search needs)
+    (λ c κs. search needs)
+    (λ c κs. search needs)
+    (λ c. search needs)
+    (λ c κs. search needs)
+    (λ c κs. search needs)
+    (λ c. search needs)
+    (λ c κs. search needs)
+    (λ c κs. search needs)
+    (λ c. search needs)
+    (λ c κs. search needs)
     same-length
     same-length-2
     same-length-3

@@ -8,9 +8,6 @@ use Rattle.session.proofs.call.no_answers.Tie as tie
 enum-told : tie.Need-enum-told
 enum-told c = search needs
 
-enum-known-verdict : tie.Need-enum-known-verdict
-enum-known-verdict c = search needs
-
 returns : tie.Need-returns
 returns c = sym (ap noAnswers (c .enum-told .given .1))
 
@@ -18,4 +15,4 @@ returns-2 : tie.Need-returns-2
 returns-2 c = sym (ap noAnswers (c .before .verdict .given .1))
 
 pub no-answers-spec : {M : Type 1} → statement M
-no-answers-spec = tie.close (tie.spec enum-told enum-known-verdict returns returns-2)
+no-answers-spec = tie.close (tie.spec enum-told (λ c. search needs) returns returns-2)

@@ -5,16 +5,10 @@ use Rattle.engine.specs.declared.calls.Answered.{Answered}
 use Rattle.session.proofs.call.without_answers.Statement.{statement}
 use Rattle.session.proofs.call.without_answers.Tie as tie
 
-no-answers-requires : tie.Need-no-answers-requires
-no-answers-requires c κs = search needs
-
-came-to-requires : tie.Need-came-to-requires
-came-to-requires c κs = search needs
-
 returns : tie.Need-returns
 returns c =
     let reply = c .before .before .args .reply in
     c .came-to .ensures ∙ ap (λ (o : Answered). record { outcome = o; state = reply .state; queries = reply .queries }) (c .before .no-answers .ensures)
 
 pub without-answers-spec : {M : Type 1} → statement M
-without-answers-spec = tie.close (tie.spec no-answers-requires came-to-requires returns)
+without-answers-spec = tie.close (tie.spec (λ c κs. search needs) (λ c κs. search needs) returns)

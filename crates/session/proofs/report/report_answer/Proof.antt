@@ -8,57 +8,6 @@ use Rattle.session.proofs.Reporting.{place-read, answer-printed}
 use Rattle.session.proofs.report.report_answer.Statement.{statement}
 use Rattle.session.proofs.report.report_answer.Tie as tie
 
-mul-j : tie.Need-mul-j
-mul-j c = search needs
-
-mul-magnitude : tie.Need-mul-magnitude
-mul-magnitude c = search needs
-
-shared-slice-copy-out-magnitude : tie.Need-shared-slice-copy-out-magnitude
-shared-slice-copy-out-magnitude c = search needs
-
-magnitude-requires : tie.Need-magnitude-requires
-magnitude-requires c κs = search needs
-
-add-magnitude : tie.Need-add-magnitude
-add-magnitude c = search needs
-
-mul-magnitude-2 : tie.Need-mul-magnitude-2
-mul-magnitude-2 c = search needs
-
-shared-slice-copy-out-magnitude-2 : tie.Need-shared-slice-copy-out-magnitude-2
-shared-slice-copy-out-magnitude-2 c = search needs
-
-magnitude-requires-2 : tie.Need-magnitude-requires-2
-magnitude-requires-2 c κs = search needs
-
-add-magnitude-2 : tie.Need-add-magnitude-2
-add-magnitude-2 c = search needs
-
-mul-magnitude-3 : tie.Need-mul-magnitude-3
-mul-magnitude-3 c = search needs
-
-shared-slice-copy-out-magnitude-3 : tie.Need-shared-slice-copy-out-magnitude-3
-shared-slice-copy-out-magnitude-3 c = search needs
-
-magnitude-requires-3 : tie.Need-magnitude-requires-3
-magnitude-requires-3 c κs = search needs
-
-add-value : tie.Need-add-value
-add-value c = search needs
-
-mul-value : tie.Need-mul-value
-mul-value c = search needs
-
-shared-slice-copy-out-value : tie.Need-shared-slice-copy-out-value
-shared-slice-copy-out-value c = search needs
-
-put-answer-requires : tie.Need-put-answer-requires
-put-answer-requires c κs = search needs
-
-same-length : tie.Need-same-length
-same-length c = search needs
-
 returns : tie.Need-returns
 returns c =
     let s = c .before .before .before .before .before .before .before .before .before .before .before .before .args in
@@ -77,21 +26,21 @@ pub report-answer-spec : {M : Type 1} → statement M
 report-answer-spec =
     tie.close
     (tie.spec
-    mul-j
-    mul-magnitude
-    shared-slice-copy-out-magnitude
-    magnitude-requires
-    add-magnitude
-    mul-magnitude-2
-    shared-slice-copy-out-magnitude-2
-    magnitude-requires-2
-    add-magnitude-2
-    mul-magnitude-3
-    shared-slice-copy-out-magnitude-3
-    magnitude-requires-3
-    add-value
-    mul-value
-    shared-slice-copy-out-value
-    put-answer-requires
-    same-length
+    (λ c. search needs)
+    (λ c. search needs)
+    (λ c. search needs)
+    (λ c κs. search needs)
+    (λ c. search needs)
+    (λ c. search needs)
+    (λ c. search needs)
+    (λ c κs. search needs)
+    (λ c. search needs)
+    (λ c. search needs)
+    (λ c. search needs)
+    (λ c κs. search needs)
+    (λ c. search needs)
+    (λ c. search needs)
+    (λ c. search needs)
+    (λ c κs. search needs)
+    (λ c. search needs)
     returns)

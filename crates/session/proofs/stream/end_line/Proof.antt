@@ -8,26 +8,11 @@ use Rattle.session.proofs.stream.end_line.Tie as tie
 abbrev callOf : tie.After-ended → tie.After-call
 callOf c = c .before .before .before .before .before .before .before .before .before .before .before .before .before .before .before .before .before
 
-add-lines : tie.Need-add-lines
-add-lines c = search needs
-
-asks-requires : tie.Need-asks-requires
-asks-requires c κs = search needs
-
-call-requires : tie.Need-call-requires
-call-requires c κs = search needs
-
-wide-requires : tie.Need-wide-requires
-wide-requires c κs = search needs
-
 report-requires : tie.Need-report-requires
 report-requires c κs =
     let at-call = c .before .before .before .before .before .before .before .before .before .before .before .before .before in
     let at-start = at-call .before .before .before .before .before .before .before .before .before .before .before .before .before .before in
     (at-call .call .ensures .within, (at-call .call .kept .1 .1 .1 .1 .1 .1 .1 .1 .0 ∙ at-start .pre .0, at-start .pre .1 .0))
-
-ended-requires : tie.Need-ended-requires
-ended-requires c κs = search needs
 
 same-length : tie.Need-same-length
 same-length c = callOf c .call .kept .1 .1 .0
@@ -50,9 +35,6 @@ same-length-6 c = callOf c .call .kept .1 .1 .1 .1 .1 .1 .1 .0
 same-length-7 : tie.Need-same-length-7
 same-length-7 c = callOf c .call .kept .1 .1 .1 .1 .1 .1 .1 .1 .0
 
-same-length-8 : tie.Need-same-length-8
-same-length-8 c = search needs
-
 returns : tie.Need-returns
 returns c =
     let at-report = c .before .before .before in
@@ -66,12 +48,12 @@ pub end-line-spec : {M : Type 1} → statement M
 end-line-spec =
     tie.close
     (tie.spec
-    add-lines
-    asks-requires
-    call-requires
-    wide-requires
+    (λ c. search needs)
+    (λ c κs. search needs)
+    (λ c κs. search needs)
+    (λ c κs. search needs)
     report-requires
-    ended-requires
+    (λ c κs. search needs)
     same-length
     same-length-2
     same-length-3
@@ -79,5 +61,5 @@ end-line-spec =
     same-length-5
     same-length-6
     same-length-7
-    same-length-8
+    (λ c. search needs)
     returns)

@@ -22,9 +22,6 @@ whole c = omega (arith, kept-whole _ (c .args .session .kept .bytes) (c .good .0
 returns : tie.Need-returns
 returns c = no-finish _ _ (λ r sh long. omega (arith, long, c .if1 .taken))
 
-refuses-requires : tie.Need-refuses-requires
-refuses-requires c κs = search needs
-
 same-length : tie.Need-same-length
 same-length c = refl
 
@@ -45,12 +42,6 @@ same-length-6 c = refl
 
 returns-2 : tie.Need-returns-2
 returns-2 c = no-finish _ _ (λ r sh long. true≢false (sym (c .if2 .taken) ∙ c .before .refuses .ensures .never _ (sh .represents)))
-
-has-last-requires : tie.Need-has-last-requires
-has-last-requires c κs = search needs
-
-slice-aggregate-end-line : tie.Need-slice-aggregate-end-line
-slice-aggregate-end-line c = search needs
 
 end-line-requires : tie.Need-end-line-requires
 end-line-requires c κs =
@@ -139,7 +130,7 @@ finish-spec =
     tie.close
     (tie.spec
     returns
-    refuses-requires
+    (λ c κs. search needs)
     same-length
     same-length-2
     same-length-3
@@ -147,8 +138,8 @@ finish-spec =
     same-length-5
     same-length-6
     returns-2
-    has-last-requires
-    slice-aggregate-end-line
+    (λ c κs. search needs)
+    (λ c. search needs)
     end-line-requires
     totals-requires
     same-length-7

@@ -7,18 +7,6 @@ use Rattle.session.proofs.stream.open.Tie as tie
 abbrev startOf : tie.After-new-line → tie.After-start
 startOf c = c .before .before .before .before .before .before .before .before .before .before
 
-fresh-requires : tie.Need-fresh-requires
-fresh-requires c κs = search needs
-
-empty-requires : tie.Need-empty-requires
-empty-requires c κs = search needs
-
-start-requires : tie.Need-start-requires
-start-requires c κs = search needs
-
-new-line-requires : tie.Need-new-line-requires
-new-line-requires c κs = search needs
-
 same-length : tie.Need-same-length
 same-length c = startOf c .start .kept .1 .1 .0
 
@@ -47,10 +35,10 @@ pub open-spec : {M : Type 1} → statement M
 open-spec =
     tie.close
     (tie.spec
-    fresh-requires
-    empty-requires
-    start-requires
-    new-line-requires
+    (λ c κs. search needs)
+    (λ c κs. search needs)
+    (λ c κs. search needs)
+    (λ c κs. search needs)
     same-length
     same-length-2
     same-length-3

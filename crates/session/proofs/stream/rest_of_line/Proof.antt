@@ -10,15 +10,6 @@ use Rattle.session.proofs.stream.rest_of_line.Tie as tie
 abbrev end-lineOf : tie.After-taken2 → tie.After-end-line
 end-lineOf c = c .before .before .before .before .before .before .before .before .before .before .before .before .before
 
-find-byte-requires : tie.Need-find-byte-requires
-find-byte-requires c κs = search needs
-
-longer-requires : tie.Need-longer-requires
-longer-requires c κs = search needs
-
-taken-requires : tie.Need-taken-requires
-taken-requires c κs = search needs
-
 returns : tie.Need-returns
 returns c =
     let at-longer = c .before .before in
@@ -36,9 +27,6 @@ end-line-requires c κs =
     let at-start = at-longer .before .before .before .before .before .before .before in
     let long = at-longer .longer .ensures in
     (at-start .pre .0 .0, (omega (arith, at-start .pre .0 .1 .0, long .at), omega (arith, at-start .pre .0 .1 .1, ap (λ (s : Session). s .lines) (long .same))))
-
-taken-requires-2 : tie.Need-taken-requires-2
-taken-requires-2 c κs = search needs
 
 same-length : tie.Need-same-length
 same-length c = end-lineOf c .end-line .kept .1 .0
@@ -76,13 +64,13 @@ pub rest-of-line-spec : {M : Type 1} → statement M
 rest-of-line-spec =
     tie.close
     (tie.spec
-    find-byte-requires
-    longer-requires
-    taken-requires
+    (λ c κs. search needs)
+    (λ c κs. search needs)
+    (λ c κs. search needs)
     returns
     add-next
     end-line-requires
-    taken-requires-2
+    (λ c κs. search needs)
     same-length
     same-length-2
     same-length-3

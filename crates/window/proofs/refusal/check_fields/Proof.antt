@@ -7,12 +7,6 @@ use Rattle.window.proofs.Refusals.{passed-any, passed-then, refused-the
 use Rattle.window.proofs.refusal.check_fields.Statement.{statement}
 use Rattle.window.proofs.refusal.check_fields.Tie as tie
 
-check-name-requires : tie.Need-check-name-requires
-check-name-requires c κs = search needs
-
-enum-known-refusal : tie.Need-enum-known-refusal
-enum-known-refusal c = search needs
-
 returns : tie.Need-returns
 unfolding fieldChecks
 returns c =
@@ -21,9 +15,6 @@ returns c =
 
 enum-told : tie.Need-enum-told
 enum-told c = search needs
-
-check-lengths-requires : tie.Need-check-lengths-requires
-check-lengths-requires c κs = search needs
 
 returns-2 : tie.Need-returns-2
 unfolding fieldChecks
@@ -35,4 +26,4 @@ returns-2 c =
 
 pub check-fields-spec : {M : Type 1} → statement M
 check-fields-spec =
-    tie.close (tie.spec check-name-requires enum-known-refusal returns enum-told check-lengths-requires returns-2)
+    tie.close (tie.spec (λ c κs. search needs) (λ c. search needs) returns enum-told (λ c κs. search needs) returns-2)

@@ -7,15 +7,9 @@ use Rattle.window.specs.Refusals.{lengthChecks}
 use Rattle.window.proofs.refusal.check_lengths.Statement.{statement}
 use Rattle.window.proofs.refusal.check_lengths.Tie as tie
 
-within-requires : tie.Need-within-requires
-within-requires c κs = search needs
-
 returns : tie.Need-returns
 unfolding lengthChecks
 returns c = rw (sym (c .before .within .ensures) ∙ not-true _ (c .if1 .taken))
-
-within-requires-2 : tie.Need-within-requires-2
-within-requires-2 c κs = search needs
 
 returns-2 : tie.Need-returns-2
 unfolding lengthChecks
@@ -34,4 +28,4 @@ returns-3 c =
     )
 
 pub check-lengths-spec : {M : Type 1} → statement M
-check-lengths-spec = tie.close (tie.spec within-requires returns within-requires-2 returns-2 returns-3)
+check-lengths-spec = tie.close (tie.spec (λ c κs. search needs) returns (λ c κs. search needs) returns-2 returns-3)

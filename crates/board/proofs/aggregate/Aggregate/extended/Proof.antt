@@ -30,12 +30,6 @@ longer s = longer-fits (s .args .self .sum) (s .args .value) (s .pre) (s .fits .
 add-widened-requires : tie.Need-add-widened-requires
 add-widened-requires c κs = add-fits (sum-is (c .before)) (value-is (c .before)) (longer (c .before))
 
-greater-requires : tie.Need-greater-requires
-greater-requires c κs = search needs
-
-greater-requires-2 : tie.Need-greater-requires-2
-greater-requires-2 c κs = search needs
-
 returns : tie.Need-returns
 returns c =
     let g = c .before .before in
@@ -50,4 +44,4 @@ returns c =
 
 pub extended-spec : {M : Type 1} → statement M
 extended-spec =
-    tie.close (tie.spec add-widened-requires greater-requires greater-requires-2 returns)
+    tie.close (tie.spec add-widened-requires (λ c κs. search needs) (λ c κs. search needs) returns)

@@ -6,22 +6,12 @@ use Rattle.board.proofs.Bounds.{nothing-consistent}
 use Rattle.board.proofs.board.Board.empty.Statement.{statement}
 use Rattle.board.proofs.board.Board.empty.Tie as tie
 
-empty-requires : tie.Need-empty-requires
-empty-requires c κs = search needs
-
-empty-requires-2 : tie.Need-empty-requires-2
-empty-requires-2 c κs = search needs
-
-empty-requires-3 : tie.Need-empty-requires-3
-empty-requires-3 c κs = search needs
-
 returns : tie.Need-returns
 returns c =
     let s = c .before .before .empty .ensures in
     let x = c .before .empty2 .ensures in
     let n = c .empty3 .ensures in
     record {
-      usable = record { sums = s .0; maxRing = x .0; minRing = n .0 };
       holds = λ h t. record {
         closed = refl;
         maxTotal = x .1 .1;
@@ -39,4 +29,4 @@ returns c =
     }
 
 pub empty-spec : {M : Type 1} → statement M
-empty-spec = tie.close (tie.spec empty-requires empty-requires-2 empty-requires-3 returns)
+empty-spec = tie.close (tie.spec (λ c κs. search needs) (λ c κs. search needs) (λ c κs. search needs) returns)

@@ -10,20 +10,11 @@ use Rattle.board.proofs.board.Board.fits.Tie as tie
 refused : {t : Bool} → not t ≡ true → t ≡ true → ⊥
 refused n t = false≢true (sym (not-true _ n) ∙ t)
 
-fits-requires : tie.Need-fits-requires
-fits-requires c κs = search needs
-
 returns : tie.Need-returns
 returns c = (λ e. absurd (false≢true e), λ f. absurd (refused (c .if1 .taken) (c .before .fits2 .ensures .1 (f .usable .sums))))
 
-deque-fits-requires : tie.Need-deque-fits-requires
-deque-fits-requires c κs = search needs
-
 returns-2 : tie.Need-returns-2
 returns-2 c = (λ e. absurd (false≢true e), λ f. absurd (refused (c .if2 .taken) (c .before .deque-fits .ensures .1 (f .usable .maxRing, f .maxTotal))))
-
-deque-fits-requires-2 : tie.Need-deque-fits-requires-2
-deque-fits-requires-2 c κs = search needs
 
 returns-3 : tie.Need-returns-3
 returns-3 c =
@@ -42,4 +33,4 @@ returns-3 c =
 pub fits-spec : {M : Type 1} → statement M
 fits-spec =
     tie.close
-    (tie.spec fits-requires returns deque-fits-requires returns-2 deque-fits-requires-2 returns-3)
+    (tie.spec (λ c κs. search needs) returns (λ c κs. search needs) returns-2 (λ c κs. search needs) returns-3)

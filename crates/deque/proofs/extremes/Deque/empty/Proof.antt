@@ -9,11 +9,8 @@ use Rattle.deque.proofs.extremes.Deque.empty.Reads as reads
 use Rattle.deque.proofs.extremes.Deque.empty.Lts as lts
 use Rattle.deque.proofs.ring.Ring.empty.Reads as empty-reads
 
-empty-requires : tie.Need-empty-requires
-empty-requires c κs = search needs
-
 returns : tie.Need-returns
 returns c = (c .empty .ensures .0, ((λ starts values. listed-none (c .empty .result .len) (λ j. entryAt starts values (place (c .empty .result .head) j)) (c .empty .ensures .2)), refl))
 
 pub empty-spec : {M : Type 1} → statement M
-empty-spec = tie.close (tie.spec empty-requires returns)
+empty-spec = tie.close (tie.spec (λ c κs. search needs) returns)

@@ -16,18 +16,6 @@ use Rattle.deque.proofs.extremes.Deque.extreme_from.Lts as lts
 use Rattle.deque.proofs.ring.Ring.place.Reads as place-reads
 use Rattle.deque.proofs.ring.Ring.search.Reads as search-reads
 
-search-requires : tie.Need-search-requires
-search-requires c κs = search needs
-
-place-requires : tie.Need-place-requires
-place-requires c κs = search needs
-
-mul-result : tie.Need-mul-result
-mul-result c = search needs
-
-shared-slice-copy-out-result : tie.Need-shared-slice-copy-out-result
-shared-slice-copy-out-result c = search needs
-
 -- what the search found, where starts never fall
 found : (c : tie.After-search) → Sorted (entriesOf (c .before .before .before .args .starts .now) (c .before .before .before .args .values .now) (c .before .before .before .args .self .ring))
     → c .search .result ≡ countBefore (c .before .before .before .args .from) (startsOf (c .before .before .before .args .starts .now) (c .before .before .before .args .self .ring))
@@ -53,9 +41,9 @@ pub extreme-from-spec : {M : Type 1} → statement M
 extreme-from-spec =
     tie.close
     (tie.spec
-    search-requires
-    place-requires
-    mul-result
-    shared-slice-copy-out-result
+    (λ c κs. search needs)
+    (λ c κs. search needs)
+    (λ c. search needs)
+    (λ c. search needs)
     returns
     returns-2)

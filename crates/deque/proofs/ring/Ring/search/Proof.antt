@@ -6,15 +6,6 @@ use Rattle.deque.proofs.Rings.{count-between}
 use Rattle.deque.proofs.ring.Ring.search.Statement.{statement}
 use Rattle.deque.proofs.ring.Ring.search.Tie as tie
 
-guess-requires : tie.Need-guess-requires
-guess-requires c κs = search needs
-
-reaches-requires : tie.Need-reaches-requires
-reaches-requires c κs = search needs
-
-follows-requires : tie.Need-follows-requires
-follows-requires c κs = search needs
-
 returns : tie.Need-returns
 returns c =
     let f = c .before in
@@ -23,13 +14,7 @@ returns c =
     let a = g .before .before .args in
     (g .guess .ensures, λ rises. count-between (a .from) (a .self .len) (λ j. startAt (a .starts .now) (place (a .self .head) j)) (g .guess .result) (g .guess .ensures) rises (f .follows .ensures (c .if2 .taken)) (r .reaches .ensures (f .before .if1 .taken)))
 
-bisect-requires : tie.Need-bisect-requires
-bisect-requires c κs = search needs
-
-returns-2 : tie.Need-returns-2
-returns-2 c = search needs
-
 pub search-spec : {M : Type 1} → statement M
 search-spec =
     tie.close
-    (tie.spec guess-requires reaches-requires follows-requires returns bisect-requires returns-2)
+    (tie.spec (λ c κs. search needs) (λ c κs. search needs) (λ c κs. search needs) returns (λ c κs. search needs) (λ c. search needs))

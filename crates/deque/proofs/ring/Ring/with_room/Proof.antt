@@ -12,16 +12,10 @@ returns c =
     let r = c .before .args .self in
     (omega arith, room-spare (r .head) (r .len) (omega arith) (omega arith))
 
-next-place-requires : tie.Need-next-place-requires
-next-place-requires c κs = search needs
-
-sub-t6 : tie.Need-sub-t6
-sub-t6 c = search needs
-
 returns-2 : tie.Need-returns-2
 returns-2 c =
     let r = c .before .before .args .self in
     (omega arith, room-full (r .head) (r .len) (c .next-place .result) (omega arith) (omega arith) (c .next-place .ensures))
 
 pub with-room-spec : {M : Type 1} → statement M
-with-room-spec = tie.close (tie.spec returns next-place-requires sub-t6 returns-2)
+with-room-spec = tie.close (tie.spec returns (λ c κs. search needs) (λ c. search needs) returns-2)

@@ -17,24 +17,6 @@ use Rattle.deque.proofs.sums.Sums.close.Lts as lts
 use Rattle.deque.proofs.ring.Ring.evict.Reads as evict-reads
 use Rattle.deque.proofs.ring.Ring.push.Reads as push-reads
 
-evict-requires : tie.Need-evict-requires
-evict-requires c κs = search needs
-
-push-requires : tie.Need-push-requires
-push-requires c κs = search needs
-
-mul-sums : tie.Need-mul-sums
-mul-sums c = search needs
-
-slice-set-of-sums : tie.Need-slice-set-of-sums
-slice-set-of-sums c = search needs
-
-same-length : tie.Need-same-length
-same-length c = search needs
-
-same-length-2 : tie.Need-same-length-2
-same-length-2 c = search needs
-
 -- the start, from the push
 abbrev start : tie.After-push → tie.Start
 start c = c .before .before .before .before .before .before
@@ -80,22 +62,10 @@ returns c =
     let s = start p in
     closed p (pos 0) _ _ (newLap (c .if1 .taken) refl (toZ-ofZ (s .fits .sum)) (toZ-ofZ (lap-fits (s .args .self) (s .pre .0))))
 
-mul-lap : tie.Need-mul-lap
-mul-lap c = search needs
-
-slice-set-from-lap : tie.Need-slice-set-from-lap
-slice-set-from-lap c = search needs
-
 add-longer : tie.Need-add-longer
 add-longer c =
     let s = start (c .before .before .before .before .before) in
     add-fits (toZ-ofZ (lap-fits (s .args .self) (s .pre .0))) (toZ-ofZ (s .fits .sum)) (more-fits (s .args .self) (s .pre .0) (s .args .sum) (s .pre .3))
-
-same-length-3 : tie.Need-same-length-3
-same-length-3 c = search needs
-
-same-length-4 : tie.Need-same-length-4
-same-length-4 c = search needs
 
 returns-2 : tie.Need-returns-2
 returns-2 c =
@@ -108,16 +78,16 @@ pub close-spec : {M : Type 1} → statement M
 close-spec =
     tie.close
     (tie.spec
-    evict-requires
-    push-requires
-    mul-sums
-    slice-set-of-sums
-    same-length
-    same-length-2
+    (λ c κs. search needs)
+    (λ c κs. search needs)
+    (λ c. search needs)
+    (λ c. search needs)
+    (λ c. search needs)
+    (λ c. search needs)
     returns
-    mul-lap
-    slice-set-from-lap
+    (λ c. search needs)
+    (λ c. search needs)
     add-longer
-    same-length-3
-    same-length-4
+    (λ c. search needs)
+    (λ c. search needs)
     returns-2)

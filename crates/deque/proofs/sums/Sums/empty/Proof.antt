@@ -9,9 +9,6 @@ use Rattle.deque.proofs.sums.Sums.empty.Reads as reads
 use Rattle.deque.proofs.sums.Sums.empty.Lts as lts
 use Rattle.deque.proofs.ring.Ring.empty.Reads as empty-reads
 
-empty-requires : tie.Need-empty-requires
-empty-requires c κs = search needs
-
 returns : tie.Need-returns
 returns c =
     let e = c .empty .ensures in (
@@ -23,4 +20,4 @@ returns c =
     )
 
 pub empty-spec : {M : Type 1} → statement M
-empty-spec = tie.close (tie.spec empty-requires returns)
+empty-spec = tie.close (tie.spec (λ c κs. search needs) returns)

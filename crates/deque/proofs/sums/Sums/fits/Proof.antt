@@ -19,9 +19,6 @@ use Rattle.deque.proofs.ring.Ring.place.Reads as place-reads
 use Rattle.deque.proofs.sums.lap_bound.Reads as lap-bound-reads
 use Rattle.ints.proofs.is_small.Reads as is-small-reads
 
-fits-requires : tie.Need-fits-requires
-fits-requires c κs = search needs
-
 returns : tie.Need-returns
 returns c = (λ e. absurd (false≢true e), λ f. absurd (false≢true (sym (not-true _ (c .if1 .taken)) ∙ c .before .fits2 .ensures .1 (f .ring))))
 
@@ -31,9 +28,6 @@ ring-fits c = c .before .fits2 .ensures .0 (not-false _ (c .if1 .left))
 
 place-requires : tie.Need-place-requires
 place-requires c κs = let f = ring-fits c in omega arith
-
-lap-bound-requires : tie.Need-lap-bound-requires
-lap-bound-requires c κs = search needs
 
 -- the bound of the lap at the place after the newest
 bound-is : (c : tie.After-lap-bound)
@@ -57,9 +51,6 @@ lap-test c =
 returns-2 : tie.Need-returns-2
 returns-2 c = (λ e. absurd (false≢true e), λ f. absurd (false≢true (sym (not-true _ (c .if2 .taken)) ∙ lap-test (c .before) .1 (f .lap))))
 
-is-small-requires-2 : tie.Need-is-small-requires-2
-is-small-requires-2 c κs = search needs
-
 returns-3 : tie.Need-returns-3
 returns-3 c =
     let e = c .before .before in
@@ -71,11 +62,11 @@ pub fits-spec : {M : Type 1} → statement M
 fits-spec =
     tie.close
     (tie.spec
-    fits-requires
+    (λ c κs. search needs)
     returns
     place-requires
-    lap-bound-requires
+    (λ c κs. search needs)
     is-small-requires
     returns-2
-    is-small-requires-2
+    (λ c κs. search needs)
     returns-3)

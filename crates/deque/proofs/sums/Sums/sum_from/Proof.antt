@@ -24,9 +24,6 @@ use Rattle.deque.proofs.ring.Ring.place.Reads as place-reads
 use Rattle.deque.proofs.ring.Ring.search.Reads as search-reads
 use Rattle.ints.proofs.clamp.Reads as clamp-reads
 
-search-requires : tie.Need-search-requires
-search-requires c κs = search needs
-
 -- what the search found, where starts never fall: the entries from there on are those that start at `from` or later
 found : (c : tie.After-search) → Sorted (partialsOf (c .before .before .before .args .starts .now) (c .before .before .before .args .sums .now) (c .before .before .before .args .self))
     → sum (map valueOf (drop (c .search .result) (partialsOf (c .before .before .before .args .starts .now) (c .before .before .before .args .sums .now) (c .before .before .before .args .self))))
@@ -41,24 +38,6 @@ returns c sorted bounds =
     let f = c .before in
     let a = f .before .before .before .args in
     sum-none (a .starts .now) (a .sums .now) (a .self) (f .search .result) (c .if1 .taken) ∙ found f sorted
-
-place-requires : tie.Need-place-requires
-place-requires c κs = search needs
-
-sub-place : tie.Need-sub-place
-sub-place c = search needs
-
-place-requires-2 : tie.Need-place-requires-2
-place-requires-2 c κs = search needs
-
-mul-clamp : tie.Need-mul-clamp
-mul-clamp c = search needs
-
-shared-slice-copy-out-clamp : tie.Need-shared-slice-copy-out-clamp
-shared-slice-copy-out-clamp c = search needs
-
-clamp-requires : tie.Need-clamp-requires
-clamp-requires c κs = search needs
 
 -- the search, and the start, from the place after the clamp
 abbrev searched : tie.After-clamp → tie.After-search
@@ -128,14 +107,14 @@ pub sum-from-spec : {M : Type 1} → statement M
 sum-from-spec =
     tie.close
     (tie.spec
-    search-requires
+    (λ c κs. search needs)
     returns
-    place-requires
-    sub-place
-    place-requires-2
-    mul-clamp
-    shared-slice-copy-out-clamp
-    clamp-requires
+    (λ c κs. search needs)
+    (λ c. search needs)
+    (λ c κs. search needs)
+    (λ c. search needs)
+    (λ c. search needs)
+    (λ c κs. search needs)
     sub-since
     add-result
     returns-2

@@ -7,23 +7,8 @@ use Rattle.board.specs.Aggregates.{firstReading, extended}
 use Rattle.engine.proofs.partial.Open.extended.Statement.{statement}
 use Rattle.engine.proofs.partial.Open.extended.Tie as tie
 
-enum-told : tie.Need-enum-told
-enum-told c = search needs
-
-enum-told-2 : tie.Need-enum-told-2
-enum-told-2 c = search needs
-
-first-requires : tie.Need-first-requires
-first-requires c κs = search needs
-
-enum-known-self : tie.Need-enum-known-self
-enum-known-self c = search needs
-
 extended-requires : tie.Need-extended-requires
 extended-requires c κs = let g = c .before .self .given in c .before .before .before .pre (g .0 .0) (g .1)
-
-returns : tie.Need-returns
-returns c = search needs
 
 returns-2 : tie.Need-returns-2
 returns-2 c =
@@ -40,11 +25,11 @@ pub extended-spec : {M : Type 1} → statement M
 extended-spec =
     tie.close
     (tie.spec
-    enum-told
-    enum-told-2
-    first-requires
-    enum-known-self
+    (λ c. search needs)
+    (λ c. search needs)
+    (λ c κs. search needs)
+    (λ c. search needs)
     extended-requires
-    returns
+    (λ c. search needs)
     returns-2
     returns-3)

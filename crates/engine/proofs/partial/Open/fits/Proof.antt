@@ -7,15 +7,6 @@ use Rattle.engine.proofs.partial.Open.fits.Tie as tie
 enum-told : tie.Need-enum-told
 enum-told c = search needs
 
-enum-told-2 : tie.Need-enum-told-2
-enum-told-2 c = search needs
-
-enum-known-self : tie.Need-enum-known-self
-enum-known-self c = search needs
-
-aggregate-fits-requires : tie.Need-aggregate-fits-requires
-aggregate-fits-requires c κs = search needs
-
 returns : tie.Need-returns
 returns c = rw (c .enum-told .given .1) (λ e. tt, λ f. refl)
 
@@ -28,4 +19,4 @@ returns-3 c = rw (c .before .before .self .given .1) (c .aggregate-fits .ensures
 pub fits-spec : {M : Type 1} → statement M
 fits-spec =
     tie.close
-    (tie.spec enum-told enum-told-2 enum-known-self aggregate-fits-requires returns returns-2 returns-3)
+    (tie.spec enum-told (λ c. search needs) (λ c. search needs) (λ c κs. search needs) returns returns-2 returns-3)

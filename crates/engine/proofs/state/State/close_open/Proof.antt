@@ -12,12 +12,6 @@ began c = c .before .before .before .before .before
 enum-told : tie.Need-enum-told
 enum-told c = search needs
 
-enum-told-2 : tie.Need-enum-told-2
-enum-told-2 c = search needs
-
-enum-known-partial : tie.Need-enum-known-partial
-enum-known-partial c = search needs
-
 close-requires : tie.Need-close-requires
 close-requires c κs =
     let p = c .before .before .before .before .before .before .before .before in
@@ -31,24 +25,6 @@ returns c = nothing-closed _ _ _ _ (c .enum-told .given .1)
 returns-2 : tie.Need-returns-2
 returns-2 c = empty-closed _ _ _ _ (c .enum-told2 .given .1)
 
-same-length : tie.Need-same-length
-same-length c = search needs
-
-same-length-2 : tie.Need-same-length-2
-same-length-2 c = search needs
-
-same-length-3 : tie.Need-same-length-3
-same-length-3 c = search needs
-
-same-length-4 : tie.Need-same-length-4
-same-length-4 c = search needs
-
-same-length-5 : tie.Need-same-length-5
-same-length-5 c = search needs
-
-same-length-6 : tie.Need-same-length-6
-same-length-6 c = search needs
-
 returns-3 : tie.Need-returns-3
 returns-3 c =
     let d = c .before .before .before .before .before .before .before .before .before in
@@ -60,15 +36,15 @@ close-open-spec =
     tie.close
     (tie.spec
     enum-told
-    enum-told-2
-    enum-known-partial
+    (λ c. search needs)
+    (λ c. search needs)
     close-requires
     returns
     returns-2
-    same-length
-    same-length-2
-    same-length-3
-    same-length-4
-    same-length-5
-    same-length-6
+    (λ c. search needs)
+    (λ c. search needs)
+    (λ c. search needs)
+    (λ c. search needs)
+    (λ c. search needs)
+    (λ c. search needs)
     returns-3)

@@ -14,14 +14,8 @@ refused n t = false≢true (sym (not-true _ n) ∙ t)
 returns : tie.Need-returns
 returns c = (λ e. absurd (false≢true e), λ f. absurd (omega (arith, f .early)))
 
-fits-requires : tie.Need-fits-requires
-fits-requires c κs = search needs
-
 returns-2 : tie.Need-returns-2
 returns-2 c = (λ e. absurd (false≢true e), λ f. absurd (refused (c .if2 .taken) (c .before .fits2 .ensures .1 (f .board))))
-
-fits-requires-2 : tie.Need-fits-requires-2
-fits-requires-2 c κs = search needs
 
 returns-3 : tie.Need-returns-3
 returns-3 c =
@@ -31,4 +25,4 @@ returns-3 c =
     )
 
 pub fits-spec : {M : Type 1} → statement M
-fits-spec = tie.close (tie.spec returns fits-requires returns-2 fits-requires-2 returns-3)
+fits-spec = tie.close (tie.spec returns (λ c κs. search needs) returns-2 (λ c κs. search needs) returns-3)

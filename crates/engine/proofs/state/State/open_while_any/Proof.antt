@@ -5,9 +5,6 @@ use borrow.Author.Needs.{needs}
 use Rattle.engine.proofs.state.State.open_while_any.Statement.{statement}
 use Rattle.engine.proofs.state.State.open_while_any.Tie as tie
 
-with-partial-requires : tie.Need-with-partial-requires
-with-partial-requires c κs = search needs
-
 returns : tie.Need-returns
 returns c = rw (eq-eqb (c .before .before .args .left) 0 (c .before .if1 .taken)) (c .with-partial .ensures)
 
@@ -15,4 +12,4 @@ returns-2 : tie.Need-returns-2
 returns-2 c = rw (ne-eqb (c .before .args .left) 0 (c .if1 .left)) refl
 
 pub open-while-any-spec : {M : Type 1} → statement M
-open-while-any-spec = tie.close (tie.spec with-partial-requires returns returns-2)
+open-while-any-spec = tie.close (tie.spec (λ c κs. search needs) returns returns-2)

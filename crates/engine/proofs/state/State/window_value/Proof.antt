@@ -27,24 +27,12 @@ value-other : (cs : List Aggregate) (n : ℕ) (q : Query) (from : ℕ) → from 
 unfolding valueIn
 value-other cs n q from w e = rw (ne-eqb (q .kind) countKind e, w)
 
-window-count-requires : tie.Need-window-count-requires
-window-count-requires c κs = search needs
-
-cast-result : tie.Need-cast-result
-cast-result c = search needs
-
 returns : tie.Need-returns
 returns c h l k le =
     let s = c .before .before .before .before .before .before in
     most-is (c .window-count .result) (omega arith)
     ∙ ap pos (c .window-count .ensures)
     ∙ value-count (l .closed) (s .args .self .count) (s .args .q) (c .before .if1 .taken)
-
-window-start-requires : tie.Need-window-start-requires
-window-start-requires c κs = search needs
-
-value-from-requires : tie.Need-value-from-requires
-value-from-requires c κs = search needs
 
 returns-2 : tie.Need-returns-2
 returns-2 c h l k le =
@@ -59,9 +47,9 @@ pub window-value-spec : {M : Type 1} → statement M
 window-value-spec =
     tie.close
     (tie.spec
-    window-count-requires
-    cast-result
+    (λ c κs. search needs)
+    (λ c. search needs)
     returns
-    window-start-requires
-    value-from-requires
+    (λ c κs. search needs)
+    (λ c κs. search needs)
     returns-2)

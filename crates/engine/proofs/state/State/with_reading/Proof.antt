@@ -16,9 +16,6 @@ use Rattle.engine.proofs.state.State.with_reading.Tie as tie
 extended-requires : tie.Need-extended-requires
 extended-requires c κs = λ a e. let s = c .args .self in small-more sizeLimit sumLimit (a .sum) (omega arith) (holding-small (s .count) (s .board .closed) (s .partial) a e (c .pre .0 .partial))
 
-add-t6 : tie.Need-add-t6
-add-t6 c = search needs
-
 returns : tie.Need-returns
 returns c =
     let s = c .before .before .before in
@@ -27,4 +24,4 @@ returns c =
     (c .before .before .extended .ensures ∙ ap (λ v. openWith (st .count) v (st .partial)) (toZ-ofZ (s .fits .value)))
 
 pub with-reading-spec : {M : Type 1} → statement M
-with-reading-spec = tie.close (tie.spec extended-requires add-t6 returns)
+with-reading-spec = tie.close (tie.spec extended-requires (λ c. search needs) returns)

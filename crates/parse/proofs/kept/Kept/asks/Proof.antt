@@ -13,17 +13,11 @@ use Rattle.parse.proofs.kept.Kept.asks.Tie as tie
 whole : (c : tie.Start) → length (c .args .self .bytes) ≡ keptLength
 whole c = kept-whole _ (c .args .self .bytes) (c .good .0 .1 .1 .0 .1 .0 .1)
 
-least-requires : tie.Need-least-requires
-least-requires c κs = search needs
-
 array-share-prefix-bytes : tie.Need-array-share-prefix-bytes
 array-share-prefix-bytes c = omega (arith, whole (c .before .before))
 
 slice-aggregate-parse-line : tie.Need-slice-aggregate-parse-line
 slice-aggregate-parse-line c = omega (arith, whole (c .before .before .before), length-take (c .before .least .result) (c .before .before .before .args .self .bytes))
-
-parse-line-requires : tie.Need-parse-line-requires
-parse-line-requires c κs = search needs
 
 returns : tie.Need-returns
 returns c =
@@ -35,8 +29,8 @@ pub asks-spec : {M : Type 1} → statement M
 asks-spec =
     tie.close
     (tie.spec
-    least-requires
+    (λ c κs. search needs)
     array-share-prefix-bytes
     slice-aggregate-parse-line
-    parse-line-requires
+    (λ c κs. search needs)
     returns)

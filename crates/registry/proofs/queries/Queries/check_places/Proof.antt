@@ -8,22 +8,10 @@ use Rattle.registry.proofs.Verdicts.{places-short, places-enough}
 use Rattle.registry.proofs.queries.Queries.check_places.Statement.{statement}
 use Rattle.registry.proofs.queries.Queries.check_places.Tie as tie
 
-mul-if1 : tie.Need-mul-if1
-mul-if1 c = search needs
-
 returns : tie.Need-returns
 returns c =
     let a = c .before .before .args in
     places-enough (a .n) (used (a .self)) (a .places) (omega (arith, due-few (a .n + 1) (a .self .count) (a .self .records), c .if1 .taken))
-
-add-due-count : tie.Need-add-due-count
-add-due-count c = search needs
-
-due-count-requires : tie.Need-due-count-requires
-due-count-requires c κs = search needs
-
-mul-if2 : tie.Need-mul-if2
-mul-if2 c = search needs
 
 returns-2 : tie.Need-returns-2
 returns-2 c =
@@ -39,4 +27,4 @@ returns-3 c =
 
 pub check-places-spec : {M : Type 1} → statement M
 check-places-spec =
-    tie.close (tie.spec mul-if1 returns add-due-count due-count-requires mul-if2 returns-2 returns-3)
+    tie.close (tie.spec (λ c. search needs) returns (λ c. search needs) (λ c κs. search needs) (λ c. search needs) returns-2 returns-3)

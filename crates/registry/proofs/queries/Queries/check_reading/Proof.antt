@@ -9,12 +9,6 @@ use Rattle.registry.proofs.Verdicts.{reading-uncounted, reading-counted
 use Rattle.registry.proofs.queries.Queries.check_reading.Statement.{statement}
 use Rattle.registry.proofs.queries.Queries.check_reading.Tie as tie
 
-check-count-requires : tie.Need-check-count-requires
-check-count-requires c κs = search needs
-
-enum-known-refusal : tie.Need-enum-known-refusal
-enum-known-refusal c = search needs
-
 returns : tie.Need-returns
 returns c =
     let n = c .before .before .before in
@@ -38,4 +32,4 @@ returns-2 c =
 
 pub check-reading-spec : {M : Type 1} → statement M
 check-reading-spec =
-    tie.close (tie.spec check-count-requires enum-known-refusal returns enum-told check-places-requires returns-2)
+    tie.close (tie.spec (λ c κs. search needs) (λ c. search needs) returns enum-told check-places-requires returns-2)

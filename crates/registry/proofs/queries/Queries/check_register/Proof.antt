@@ -14,12 +14,6 @@ use Rattle.registry.proofs.queries.Queries.check_register.Tie as tie
 counted : (c : tie.Start) → length (used (c .args .self)) ≡ c .args .self .count
 counted c = used-count (c .args .self) (c .pre) (mapped-length _ (c .args .self .records) recordLimit (c .good .0 .1 .1 .1 .0 .1 .0 .1))
 
-check-fields-requires : tie.Need-check-fields-requires
-check-fields-requires c κs = search needs
-
-enum-known-refusal : tie.Need-enum-known-refusal
-enum-known-refusal c = search needs
-
 returns : tie.Need-returns
 returns c =
     let a = c .before .before .before .before .args in
@@ -27,9 +21,6 @@ returns c =
 
 enum-told : tie.Need-enum-told
 enum-told c = search needs
-
-holds-requires : tie.Need-holds-requires
-holds-requires c κs = search needs
 
 returns-2 : tie.Need-returns-2
 returns-2 c =
@@ -57,11 +48,11 @@ pub check-register-spec : {M : Type 1} → statement M
 check-register-spec =
     tie.close
     (tie.spec
-    check-fields-requires
-    enum-known-refusal
+    (λ c κs. search needs)
+    (λ c. search needs)
     returns
     enum-told
-    holds-requires
+    (λ c κs. search needs)
     returns-2
     returns-3
     returns-4)

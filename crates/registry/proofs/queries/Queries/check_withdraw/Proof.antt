@@ -6,9 +6,6 @@ use Rattle.registry.proofs.Verdicts.{withdraw-found, withdraw-missing}
 use Rattle.registry.proofs.queries.Queries.check_withdraw.Statement.{statement}
 use Rattle.registry.proofs.queries.Queries.check_withdraw.Tie as tie
 
-holds-requires : tie.Need-holds-requires
-holds-requires c κs = search needs
-
 returns : tie.Need-returns
 returns c =
     let a = c .before .before .args in
@@ -20,4 +17,4 @@ returns-2 c =
     withdraw-missing (used (a .self)) (a .number) (sym (c .before .holds .ensures) ∙ c .if1 .left)
 
 pub check-withdraw-spec : {M : Type 1} → statement M
-check-withdraw-spec = tie.close (tie.spec holds-requires returns returns-2)
+check-withdraw-spec = tie.close (tie.spec (λ c κs. search needs) returns returns-2)

@@ -7,11 +7,8 @@ use Rattle.registry.specs.Records.{recordLimit}
 use Rattle.registry.proofs.queries.Queries.empty.Statement.{statement}
 use Rattle.registry.proofs.queries.Queries.empty.Tie as tie
 
-unused-requires : tie.Need-unused-requires
-unused-requires c κs = search needs
-
 returns : tie.Need-returns
 returns c = (refl, (refl, ap (λ (q : Query). replicate recordLimit q) (c .unused .ensures)))
 
 pub empty-spec : {M : Type 1} → statement M
-empty-spec = tie.close (tie.spec unused-requires returns)
+empty-spec = tie.close (tie.spec (λ c κs. search needs) returns)

@@ -6,14 +6,8 @@ use Rattle.registry.proofs.Finding.{isAt, registered-at}
 use Rattle.registry.proofs.queries.Queries.holds.Statement.{statement}
 use Rattle.registry.proofs.queries.Queries.holds.Tie as tie
 
-find-requires : tie.Need-find-requires
-find-requires c κs = search needs
-
 enum-told : tie.Need-enum-told
 enum-told c = search needs
-
-enum-told-2 : tie.Need-enum-told-2
-enum-told-2 c = search needs
 
 returns : tie.Need-returns
 returns c =
@@ -26,4 +20,4 @@ returns-2 c =
     sym (registered-at (s .number) (used (s .self)) ∙ ap isAt (sym (c .before .before .find .ensures) ∙ c .enum-told2 .given .1))
 
 pub holds-spec : {M : Type 1} → statement M
-holds-spec = tie.close (tie.spec find-requires enum-told enum-told-2 returns returns-2)
+holds-spec = tie.close (tie.spec (λ c κs. search needs) enum-told (λ c. search needs) returns returns-2)

@@ -13,15 +13,6 @@ use Rattle.registry.proofs.queries.Queries.joined_by.Tie as tie
 whole : (c : tie.Start) → length (c .args .self .records) ≡ recordLimit
 whole c = mapped-length _ (c .args .self .records) recordLimit (c .good .0 .1 .1 .1 .0 .1 .0 .1)
 
-mul-records : tie.Need-mul-records
-mul-records c = search needs
-
-array-set-from-records : tie.Need-array-set-from-records
-array-set-from-records c = search needs
-
-add-t5 : tie.Need-add-t5
-add-t5 c = search needs
-
 returns : tie.Need-returns
 returns c =
     let s = c .before .args .self in
@@ -29,4 +20,4 @@ returns c =
     (refl, (joined-used (s .records) (s .count) q (omega (arith, whole (c .before))), (joined-tidy (s .records) (s .count) q (whole (c .before)) (c .before .pre), refl)))
 
 pub joined-by-spec : {M : Type 1} → statement M
-joined-by-spec = tie.close (tie.spec mul-records array-set-from-records add-t5 returns)
+joined-by-spec = tie.close (tie.spec (λ c. search needs) (λ c. search needs) (λ c. search needs) returns)

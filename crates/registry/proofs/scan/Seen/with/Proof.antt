@@ -7,23 +7,11 @@ use borrow.Author.Needs.{needs}
 use Rattle.registry.proofs.scan.Seen.with.Statement.{statement}
 use Rattle.registry.proofs.scan.Seen.with.Tie as tie
 
-broken-requires : tie.Need-broken-requires
-broken-requires c κs = search needs
-
 returns : tie.Need-returns
 returns c = let a = c .before .before .args in with-broken (a .n) (a .m) (a .q) (a .self) (sym (c .before .broken .ensures) ∙ c .if1 .taken)
 
-both-requires : tie.Need-both-requires
-both-requires c κs = search needs
-
 edge-or-requires : tie.Need-edge-or-requires
 edge-or-requires c κs = let e = c .before .before .before in sound-limits _ _ (sym (e .before .broken .ensures) ∙ e .if1 .left)
-
-window-start-requires : tie.Need-window-start-requires
-window-start-requires c κs = search needs
-
-lesser-requires : tie.Need-lesser-requires
-lesser-requires c κs = search needs
 
 returns-2 : tie.Need-returns-2
 returns-2 c =
@@ -38,10 +26,10 @@ pub with-spec : {M : Type 1} → statement M
 with-spec =
     tie.close
     (tie.spec
-    broken-requires
+    (λ c κs. search needs)
     returns
-    both-requires
+    (λ c κs. search needs)
     edge-or-requires
-    window-start-requires
-    lesser-requires
+    (λ c κs. search needs)
+    (λ c κs. search needs)
     returns-2)

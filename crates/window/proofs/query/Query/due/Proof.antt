@@ -8,12 +8,6 @@ use Rattle.window.proofs.query.Query.due.Tie as tie
 returns : tie.Need-returns
 returns c = simp (le-ltb _ _ (c .if1 .taken))
 
-phase-requires : tie.Need-phase-requires
-phase-requires c κs = search needs
-
-count-of-requires : tie.Need-count-of-requires
-count-of-requires c κs = search needs
-
 rem-result : tie.Need-rem-result
 rem-result c = omega (arith, c .count-of .ensures, c .before .before .before .before .pre .slideLow)
 
@@ -21,4 +15,4 @@ returns-2 : tie.Need-returns-2
 returns-2 c = simp (lt-ltb _ _ (c .before .before .if1 .left), c .before .phase .ensures, c .count-of .ensures)
 
 pub due-spec : {M : Type 1} → statement M
-due-spec = tie.close (tie.spec returns phase-requires count-of-requires rem-result returns-2)
+due-spec = tie.close (tie.spec returns (λ c κs. search needs) (λ c κs. search needs) rem-result returns-2)

@@ -12,12 +12,6 @@ use Rattle.window.proofs.query.Query.edge.Tie as tie
 returns : tie.Need-returns
 returns c = simp (le-ltb _ _ (c .if1 .taken))
 
-count-of-requires : tie.Need-count-of-requires
-count-of-requires c κs = search needs
-
-phase-requires : tie.Need-phase-requires
-phase-requires c κs = search needs
-
 rem-rest : tie.Need-rem-rest
 rem-rest c = omega (arith, c .before .count-of .ensures, c .before .before .before .before .pre .slideLow)
 
@@ -25,9 +19,6 @@ returns-2 : tie.Need-returns-2
 returns-2 c =
     let p = c .before in
     sym (edge-at-end _ _ _ (p .phase .ensures) (p .before .before .if1 .left) (rw (p .before .count-of .ensures) at (c .if2 .taken)))
-
-count-of-requires-2 : tie.Need-count-of-requires-2
-count-of-requires-2 c κs = search needs
 
 add-result : tie.Need-add-result
 add-result c =
@@ -46,4 +37,4 @@ returns-3 c =
 pub edge-spec : {M : Type 1} → statement M
 edge-spec =
     tie.close
-    (tie.spec returns count-of-requires phase-requires rem-rest returns-2 count-of-requires-2 add-result rem-result returns-3)
+    (tie.spec returns (λ c κs. search needs) (λ c κs. search needs) rem-rest returns-2 (λ c κs. search needs) add-result rem-result returns-3)

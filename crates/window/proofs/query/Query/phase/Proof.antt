@@ -4,12 +4,9 @@ use Rattle.window.specs.Queries.{phase}
 use Rattle.window.proofs.query.Query.phase.Statement.{statement}
 use Rattle.window.proofs.query.Query.phase.Tie as tie
 
-sub-result : tie.Need-sub-result
-sub-result c = search needs
-
 returns : tie.Need-returns
 unfolding phase
 returns c = search needs
 
 pub phase-spec : {M : Type 1} → statement M
-phase-spec = tie.close (tie.spec sub-result returns)
+phase-spec = tie.close (tie.spec (λ c. search needs) returns)
