@@ -12,8 +12,8 @@ use Rattle.window.specs.Partials.{Entry, live, entriesFrom}
 use Rattle.window.specs.Standing.{standing, comparisons, evicted}
 use Rattle.window.proofs.Lists.{filter-append}
 use Rattle.window.proofs.Standing.{evicted-from, standing-from, standing-snoc, standing-sorted, standing-le}
-use Rattle.deque.specs.Rings.{capacity, newest}
-use Rattle.deque.specs.Extremes.{trimmed, closedWith, closingCost}
+use Rattle.deque.specs.Rings.{capacity, newest, appended}
+use Rattle.deque.specs.Extremes.{trimmed, trimComparisons, closedWith}
 use Rattle.deque.proofs.Trimming.{trimmed-le, trimmed-standing, trim-comparisons}
 use Rattle.board.specs.declared.aggregate.Aggregate.{Aggregate}
 use Rattle.board.specs.Aggregates.{closedFrom, entryBy, entriesBy, Rising}
@@ -46,7 +46,7 @@ module _ {A : Type 0} (f : Aggregate → A) (h : ℕ) (cs qs : List Aggregate) (
 
   -- they and the new one are what is held after its closing
   pub closed-entries : (a : Aggregate) → length (closedFrom h cs) < capacity
-      → newest capacity (evicted h (entriesBy f qs) ++ (entryBy f a ∷ [])) ≡ entriesBy f (closedFrom h cs ++ (a ∷ []))
+      → appended (entryBy f a) (evicted h (entriesBy f qs)) ≡ entriesBy f (closedFrom h cs ++ (a ∷ []))
   closed-entries a l =
       rw (held-evicted, newest-snoc capacity (entriesBy f (closedFrom h cs)) (entryBy f a) (rw (length-map (closedFrom h cs) (entryBy f)) l))
       (sym (entries-snoc f (closedFrom h cs) a))
@@ -62,7 +62,7 @@ module _ {A : Type 0} (f : Aggregate → A) (h : ℕ) (cs qs : List Aggregate) (
     module _ (order : Order below) (a : Aggregate) where
       -- what stands of the live ones and the new one is what a deque holds after the closing
       pub closed-standing : length (closedFrom h cs) < capacity
-          → closedWith below (entryBy f a) h (standing below (entriesBy f qs)) ≡ standing below (entriesBy f (closedFrom h cs ++ (a ∷ [])))
+          → closedWith below (entryBy f a) (evicted h (standing below (entriesBy f qs))) ≡ standing below (entriesBy f (closedFrom h cs ++ (a ∷ [])))
       closed-standing l =
           let y : Entry A = entryBy f a in
           let es : List (Entry A) = entriesBy f (closedFrom h cs) in
@@ -76,5 +76,5 @@ module _ {A : Type 0} (f : Aggregate → A) (h : ℕ) (cs qs : List Aggregate) (
           (sym (standing-snoc below es y))
 
       -- and its comparisons are those with what stands of the live ones
-      pub closed-cost : closingCost below (entryBy f a) h (standing below (entriesBy f qs)) ≡ comparisons below (standing below (entriesBy f (closedFrom h cs))) (entryBy f a)
+      pub closed-cost : trimComparisons below (entryBy f a) (evicted h (standing below (entriesBy f qs))) ≡ comparisons below (standing below (entriesBy f (closedFrom h cs))) (entryBy f a)
       closed-cost = rw standing-evicted (trim-comparisons below order (entryBy f a) (entriesBy f (closedFrom h cs)))

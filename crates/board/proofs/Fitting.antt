@@ -1,9 +1,9 @@
--- The numbers that a closing adds fit, and those that it is given are the aggregate's.
+-- The numbers that a closing adds fit; those that it is given are the aggregate's, and the entries what eviction leaves.
 -- Assumes nothing.
 use Prim.Native.Nat.{ℕ, _+_, _≤_, _<_, _^_}
-use mathlib.Core.Path.{_≡_, subst}
+use mathlib.Core.Path.{_≡_, ap₂, _∙_}
 use mathlib.Core.Bool.{Bool}
-use mathlib.Core.List.{List, [], _∷_, _++_}
+use mathlib.Core.List.{List}
 use native.Mathlib.Omega.{arith}
 use lib.IntN.{ℤ}
 use mir.Syntax.{w32, w64}
@@ -14,7 +14,8 @@ use Rattle.ints.proofs.Sizes.{small-fits}
 use Rattle.window.specs.Queries.{countLimit}
 use Rattle.window.specs.Partials.{Entry}
 use Rattle.deque.specs.declared.extremes.Deque.{Deque}
-use Rattle.deque.specs.Rings.{capacity, entryWith, newest}
+use Rattle.deque.specs.Rings.{capacity, entryWith, appended}
+use Rattle.deque.specs.Extremes.{trimComparisons, closedWith}
 use Rattle.deque.specs.Sums.{sumLimit}
 use Rattle.board.specs.Boards.{totalLimit}
 use Rattle.board.proofs.Holding.{DequeClosed}
@@ -31,13 +32,17 @@ closed-fits closed h = record { fits = omega arith }
 pub sum-is : (sum : ℤ) → Small sumLimit sum → toZ w64 (ofZ w64 sum) ≡ sum
 sum-is sum s = toZ-ofZ (small-fits sumLimit sum (omega arith) s)
 
--- partials that end with the sum as the machine has it end with the sum
-pub sums-closed : (held : List (Entry ℤ)) (start : ℕ) {v v₁ : ℤ} {left : List (Entry ℤ)} → v₁ ≡ v → left ≡ newest capacity (held ++ (entryWith start v₁ ∷ []))
-    → left ≡ newest capacity (held ++ (entryWith start v ∷ []))
-sums-closed held start {left = left} e = subst (λ (z : ℤ). left ≡ newest capacity (held ++ (entryWith start z ∷ []))) e
+-- evicting and then closing with the value as the machine has it is closing with the value on the evicted entries: of the
+-- partials with their sums
+pub sums-closed : (start : ℕ) {v v₁ : ℤ} {es es₁ left : List (Entry ℤ)} → v₁ ≡ v → es₁ ≡ es → left ≡ appended (entryWith start v₁) es₁ → left ≡ appended (entryWith start v) es
+sums-closed start e f c = c ∙ ap₂ (λ (z : ℤ). appended (entryWith start z)) e f
 
--- a deque that closed with the value as the machine has it closed with the value
-pub deque-closed : {below : ℤ → ℤ → Bool} {start h : ℕ} {v v₁ : ℤ} {starts starts′ : List ℕ} {values values′ : List ℤ} {d d′ : Deque} → v₁ ≡ v
-    → DequeClosed below (entryWith start v₁) h starts values d starts′ values′ d′ → DequeClosed below (entryWith start v) h starts values d starts′ values′ d′
-deque-closed {below} {start} {h} {starts = starts} {starts′ = starts′} {values = values} {values′ = values′} {d = d} {d′ = d′} e =
-    subst (λ (z : ℤ). DequeClosed below (entryWith start z) h starts values d starts′ values′ d′) e
+-- and of a deque
+pub deque-closed : {below : ℤ → ℤ → Bool} {start m m₁ : ℕ} {v v₁ : ℤ} {es es₁ : List (Entry ℤ)} {starts : List ℕ} {values : List ℤ} {d : Deque} → v₁ ≡ v → es₁ ≡ es → m₁ ≡ m
+    → DequeClosed below (entryWith start v₁) es₁ m₁ starts values d → DequeClosed below (entryWith start v) es m starts values d
+deque-closed {below} {start} e f g c =
+    record {
+      fits = c .fits;
+      entries = c .entries ∙ ap₂ (λ (z : ℤ). closedWith below (entryWith start z)) e f;
+      cost = c .cost ∙ ap₂ _+_ g (ap₂ (λ (z : ℤ). trimComparisons below (entryWith start z)) e f);
+    }

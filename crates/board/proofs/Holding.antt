@@ -9,7 +9,7 @@ use lib.IntN.{ℤ, pos}
 use lib.Signed.{leZ}
 use lib.ListN.{length, length-append}
 use borrow.Author.Tests.{ne-eqb, eq-eqb}
-use Rattle.window.specs.Orders.{Order, geZ, sum, extreme}
+use Rattle.window.specs.Orders.{Order, geZ, sum, extreme, maximum, minimum}
 use Rattle.window.specs.Queries.{sumKind, maximumKind}
 use Rattle.window.specs.Partials.{Entry, entriesFrom, valueOf}
 use Rattle.window.specs.Standing.{standing, frontOf, evicted}
@@ -17,18 +17,30 @@ use Rattle.window.specs.Invariant.{Sorted}
 use Rattle.window.proofs.Orders.{leZ-order, geZ-order}
 use Rattle.window.proofs.Standing.{standing-sorted, standing-front, evicted-from}
 use Rattle.deque.specs.declared.extremes.Deque.{Deque}
-use Rattle.deque.specs.Rings.{capacity, Fits, entryWith, newest}
-use Rattle.deque.specs.Extremes.{entriesOf, closedWith, closingCost}
+use Rattle.deque.specs.Rings.{capacity, Fits, appended}
+use Rattle.deque.specs.Extremes.{entriesOf, trimComparisons, closedWith}
 use Rattle.deque.specs.Sums.{partialsOf, FitsSums, InBounds}
 use Rattle.board.specs.declared.aggregate.Aggregate.{Aggregate}
 use Rattle.board.specs.declared.board.Board.{Board}
 use Rattle.board.specs.Aggregates.{sumOf, maximumOf, minimumOf, closedFrom, entryBy, entriesBy, Rising, Before}
-use Rattle.board.specs.Ledgers.{Ledger, closeWith, closingComparisons, valueOver}
+use Rattle.board.specs.Ledgers.{Ledger, closeWith, closingComparisons, byKind, valueOver}
 use Rattle.board.specs.Tables.{Tables}
-use Rattle.board.specs.Boards.{Within, StandsOn, Holds, HoldsLive}
+use Rattle.board.specs.Boards.{Within, StandsOn, Holds, HoldsLive, headValue}
 use Rattle.board.proofs.Bounds.{amortized-bound, closed-consistent}
 use Rattle.board.proofs.Lists.{rising-snoc, rising-from, before-from, from-from, room, rising-sorted}
 use Rattle.board.proofs.Closings.{closed-live, held-evicted, closed-entries, standing-evicted, closed-standing, closed-cost}
+
+-- ---- of a sum, a maximum and a minimum the one of a kind
+
+module _ (kind : ℕ) (s x n : ℤ) where
+  pub of-sum : kind ≡ sumKind → s ≡ byKind kind s x n
+  of-sum e = rw (eq-eqb kind sumKind e)
+
+  pub of-maximum : (kind ≡ sumKind → ⊥) → kind ≡ maximumKind → x ≡ byKind kind s x n
+  of-maximum m e = rw (ne-eqb kind sumKind m, eq-eqb kind maximumKind e)
+
+  pub of-minimum : (kind ≡ sumKind → ⊥) → (kind ≡ maximumKind → ⊥) → n ≡ byKind kind s x n
+  of-minimum m k = rw (ne-eqb kind sumKind m, ne-eqb kind maximumKind k)
 
 -- ---- the horizon rises
 
@@ -51,34 +63,34 @@ holds-rises h h′ l b t le k =
 
 -- ---- a closing
 
--- a deque, on its tables of starts and values, before and after the closing of y, with the horizon h
-pub record DequeClosed (below : ℤ → ℤ → Bool) (y : Entry ℤ) (h : ℕ) (starts : List ℕ) (values : List ℤ) (d : Deque) (starts′ : List ℕ) (values′ : List ℤ) (d′ : Deque) : Type 0 where
-  pub fits : Fits (d′ .ring)
-  pub entries : entriesOf starts′ values′ (d′ .ring) ≡ closedWith below y h (entriesOf starts values (d .ring))
-  pub cost : d′ .comparisons ≡ d .comparisons + closingCost below y h (entriesOf starts values (d .ring))
+-- a deque, on its tables of starts and values, after y closed on the entries es, with m comparisons made before
+pub record DequeClosed (below : ℤ → ℤ → Bool) (y : Entry ℤ) (es : List (Entry ℤ)) (m : ℕ) (starts : List ℕ) (values : List ℤ) (d : Deque) : Type 0 where
+  pub fits : Fits (d .ring)
+  pub entries : entriesOf starts values (d .ring) ≡ closedWith below y es
+  pub cost : d .comparisons ≡ m + trimComparisons below y es
 
--- what the closings of the three rings leave, by their views
+-- what the closings of the three rings leave once each is evicted, by their views
 pub record Closed (a : Aggregate) (h : ℕ) (b : Board) (t : Tables) (b′ : Board) (t′ : Tables) : Type 0 where
   pub closed : b′ .closed ≡ b .closed + 1
   pub fits : FitsSums (b′ .sums)
-  pub sums : partialsOf (t′ .starts) (t′ .sums) (b′ .sums) ≡ newest capacity (evicted h (partialsOf (t .starts) (t .sums) (b .sums)) ++ (entryWith (a .start) (a .sum) ∷ []))
+  pub sums : partialsOf (t′ .starts) (t′ .sums) (b′ .sums) ≡ appended (entryBy sumOf a) (evicted h (partialsOf (t .starts) (t .sums) (b .sums)))
   pub bounds : InBounds (t .sums) (b .sums) → InBounds (t′ .sums) (b′ .sums)
-  pub maxima : DequeClosed leZ (entryBy maximumOf a) h (t .maxStarts) (t .maxValues) (b .maxima) (t′ .maxStarts) (t′ .maxValues) (b′ .maxima)
-  pub minima : DequeClosed geZ (entryBy minimumOf a) h (t .minStarts) (t .minValues) (b .minima) (t′ .minStarts) (t′ .minValues) (b′ .minima)
+  pub maxima : DequeClosed leZ (entryBy maximumOf a) (evicted h (entriesOf (t .maxStarts) (t .maxValues) (b .maxima .ring))) (b .maxima .comparisons) (t′ .maxStarts) (t′ .maxValues) (b′ .maxima)
+  pub minima : DequeClosed geZ (entryBy minimumOf a) (evicted h (entriesOf (t .minStarts) (t .minValues) (b .minima .ring))) (b .minima .comparisons) (t′ .minStarts) (t′ .minValues) (b′ .minima)
 
 module _ (below : ℤ → ℤ → Bool) (order : Order below) (f : Aggregate → ℤ) (h : ℕ) (cs held : List Aggregate) (rising : Rising held) (same : closedFrom h held ≡ closedFrom h cs) (a : Aggregate)
     (starts : List ℕ) (values : List ℤ) (d : Deque) (starts′ : List ℕ) (values′ : List ℤ) (d′ : Deque)
-    (stood : StandsOn below (entriesBy f held) starts values d) (done : DequeClosed below (entryBy f a) h starts values d starts′ values′ d′) where
+    (stood : StandsOn below (entriesBy f held) starts values d) (done : DequeClosed below (entryBy f a) (evicted h (entriesOf starts values (d .ring))) (d .comparisons) starts′ values′ d′) where
   -- a deque holds what stands of the live ones and the new one
   deque-stands : length (closedFrom h cs) < capacity → StandsOn below (entriesBy f (closedFrom h cs ++ (a ∷ []))) starts′ values′ d′
   deque-stands l =
-      record { fits = done .fits; entries = done .entries ∙ ap (closedWith below (entryBy f a) h) (stood .entries) ∙ closed-standing f h cs held rising same below order a l }
+      record { fits = done .fits; entries = done .entries ∙ ap (λ (xs : List (Entry ℤ)). closedWith below (entryBy f a) (evicted h xs)) (stood .entries) ∙ closed-standing f h cs held rising same below order a l }
 
   -- and its comparisons grew by those of the ledger
   deque-total : d′ .comparisons ≡ d .comparisons + closingComparisons below f h a cs
   deque-total =
       done .cost
-      ∙ ap (λ (xs : List (Entry ℤ)). d .comparisons + closingCost below (entryBy f a) h xs) (stood .entries)
+      ∙ ap (λ (xs : List (Entry ℤ)). d .comparisons + trimComparisons below (entryBy f a) (evicted h xs)) (stood .entries)
       ∙ ap (λ (k : ℕ). d .comparisons + k) (closed-cost f h cs held rising same below order a)
 
 -- the closing of a is the ledger's
@@ -102,7 +114,7 @@ closed-holds a h b t b′ t′ c l k before near =
       fits = c .fits;
       sums =
           c .sums
-          ∙ ap (λ (xs : List (Entry ℤ)). newest capacity (evicted h xs ++ (entryWith (a .start) (a .sum) ∷ []))) (k .sums)
+          ∙ ap (λ (xs : List (Entry ℤ)). appended (entryBy sumOf a) (evicted h xs)) (k .sums)
           ∙ closed-entries sumOf h cs (k .held) (k .heldRising) (k .live) a few;
       bounds = c .bounds (k .bounds);
       maxima = deque-stands leZ leZ-order maximumOf h cs (k .held) (k .heldRising) (k .live) a (t .maxStarts) (t .maxValues) (b .maxima) (t′ .maxStarts) (t′ .maxValues) (b′ .maxima) (k .maxima) (c .maxima) few;
@@ -172,17 +184,37 @@ module _ (h from : ℕ) (l : Ledger) (b : Board) (t : Tables) (k : Holds h l b t
       go [] = refl
       go (c ∷ cs) = standing-front below order (pos 0) (entryBy f c) (entriesBy f cs) ∙ ap (extreme below) (values-by f (c ∷ cs))
 
+  -- the maximum and the minimum from a place on
+  pub maximum-is : frontOf (pos 0) (evicted from (entriesOf (t .maxStarts) (t .maxValues) (b .maxima .ring))) ≡ maximum (map maximumOf (closedFrom from (l .closed)))
+  maximum-is =
+      extreme-is leZ leZ-order maximumOf (entriesOf (t .maxStarts) (t .maxValues) (b .maxima .ring))
+      (deque-evicted from l b t later leZ maximumOf (t .maxStarts) (t .maxValues) (b .maxima) (later .maxima))
+
+  pub minimum-is : frontOf (pos 0) (evicted from (entriesOf (t .minStarts) (t .minValues) (b .minima .ring))) ≡ minimum (map minimumOf (closedFrom from (l .closed)))
+  minimum-is =
+      extreme-is geZ geZ-order minimumOf (entriesOf (t .minStarts) (t .minValues) (b .minima .ring))
+      (deque-evicted from l b t later geZ minimumOf (t .minStarts) (t .minValues) (b .minima) (later .minima))
+
+  -- so the value of each kind
   module _ (kind : ℕ) where
     pub value-sum : kind ≡ sumKind → sum (map valueOf (evicted from (partialsOf (t .starts) (t .sums) (b .sums)))) ≡ valueOver kind (closedFrom from (l .closed))
     unfolding valueOver
-    value-sum e = sum-is ∙ rw (eq-eqb kind sumKind e) refl
+    value-sum e = sum-is ∙ of-sum kind _ _ _ e
 
     pub value-maximum : (kind ≡ sumKind → ⊥) → kind ≡ maximumKind
         → frontOf (pos 0) (evicted from (entriesOf (t .maxStarts) (t .maxValues) (b .maxima .ring))) ≡ valueOver kind (closedFrom from (l .closed))
     unfolding valueOver
-    value-maximum n e = extreme-is leZ leZ-order maximumOf (entriesOf (t .maxStarts) (t .maxValues) (b .maxima .ring)) (deque-evicted from l b t later leZ maximumOf (t .maxStarts) (t .maxValues) (b .maxima) (later .maxima)) ∙ rw (ne-eqb kind sumKind n, eq-eqb kind maximumKind e) refl
+    value-maximum n e = maximum-is ∙ of-maximum kind _ _ _ n e
 
     pub value-minimum : (kind ≡ sumKind → ⊥) → (kind ≡ maximumKind → ⊥)
         → frontOf (pos 0) (evicted from (entriesOf (t .minStarts) (t .minValues) (b .minima .ring))) ≡ valueOver kind (closedFrom from (l .closed))
     unfolding valueOver
-    value-minimum n m = extreme-is geZ geZ-order minimumOf (entriesOf (t .minStarts) (t .minValues) (b .minima .ring)) (deque-evicted from l b t later geZ minimumOf (t .minStarts) (t .minValues) (b .minima) (later .minima)) ∙ rw (ne-eqb kind sumKind n, ne-eqb kind maximumKind m) refl
+    value-minimum n m = minimum-is ∙ of-minimum kind _ _ _ n m
+
+    -- and all three at once, as the machine has them
+    pub value-heads : {s s₁ x x₁ n n₁ : ℤ} → s₁ ≡ s → x₁ ≡ x → n₁ ≡ n → s ≡ sum (map valueOf (evicted from (partialsOf (t .starts) (t .sums) (b .sums))))
+        → x ≡ frontOf (pos 0) (evicted from (entriesOf (t .maxStarts) (t .maxValues) (b .maxima .ring)))
+        → n ≡ frontOf (pos 0) (evicted from (entriesOf (t .minStarts) (t .minValues) (b .minima .ring)))
+        → headValue kind (record { sum = s₁; maximum = x₁; minimum = n₁ }) ≡ valueOver kind (closedFrom from (l .closed))
+    unfolding headValue valueOver
+    value-heads e f g sums maxima minima = rw (e ∙ sums ∙ sum-is, f ∙ maxima ∙ maximum-is, g ∙ minima ∙ minimum-is)

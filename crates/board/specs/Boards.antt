@@ -16,8 +16,9 @@ use Rattle.deque.specs.Extremes.{entriesOf}
 use Rattle.deque.specs.Sums.{partialsOf, FitsSums, InBounds}
 use Rattle.board.specs.declared.aggregate.Aggregate.{Aggregate}
 use Rattle.board.specs.declared.board.Board.{Board}
+use Rattle.board.specs.declared.heads.Heads.{Heads}
 use Rattle.board.specs.Aggregates.{sumOf, maximumOf, minimumOf, closedFrom, entriesBy, Rising, Before}
-use Rattle.board.specs.Ledgers.{Ledger, nothingClosed, closeWith, valueOver, Consistent}
+use Rattle.board.specs.Ledgers.{Ledger, nothingClosed, closeWith, byKind, valueOver, Consistent}
 use Rattle.board.specs.Tables.{Tables, TablesKept}
 
 -- ---- what the code asks of a board
@@ -89,3 +90,11 @@ pub record CloseEnsures (a : Aggregate) (h : ℕ) (b : Board) (t : Tables) (b′
 -- the value of a kind from a place on that is not before the horizon
 pub record ValueEnsures (kind from : ℕ) (b : Board) (t : Tables) (r : ℤ) : Type 0 where
   pub value : (h : ℕ) (l : Ledger) → Holds h l b t → h ≤ from → r ≡ valueOver kind (closedFrom from (l .closed))
+
+-- the value of a kind, of those worked out for a window that begins at the horizon
+unfoldable pub headValue : ℕ → Heads → ℤ
+headValue kind v = byKind kind (v .sum) (v .maximum) (v .minimum)
+
+-- for every kind the value from the horizon on
+pub record HeadsEnsures (horizon : ℕ) (b : Board) (t : Tables) (v : Heads) : Type 0 where
+  pub values : (kind : ℕ) → ValueEnsures kind horizon b t (headValue kind v)

@@ -41,10 +41,13 @@ closeWith h a l =
     (l .maxComparisons + closingComparisons leZ maximumOf h a (l .closed))
     (l .minComparisons + closingComparisons geZ minimumOf h a (l .closed))
 
--- the value of a kind over these: the sum, the maximum, or for every other kind the minimum; 0 over none
+-- of a sum, a maximum and a minimum the one of a kind; for every other kind the minimum
+abbrev pub byKind : ℕ → (sum maximum minimum : ℤ) → ℤ
+byKind kind s x n = cond (eqb kind sumKind) s (cond (eqb kind maximumKind) x n)
+
+-- the value of a kind over these; 0 over none
 unfoldable pub valueOver : ℕ → List Aggregate → ℤ
-valueOver kind cs =
-    cond (eqb kind sumKind) (sum (map sumOf cs)) (cond (eqb kind maximumKind) (maximum (map maximumOf cs)) (minimum (map minimumOf cs)))
+valueOver kind cs = byKind kind (sum (map sumOf cs)) (maximum (map maximumOf cs)) (minimum (map minimumOf cs))
 
 -- ---- what holds of every ledger that closings lead to
 

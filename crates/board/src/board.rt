@@ -1,5 +1,6 @@
 // The board's state: it goes in by value and comes back, with six lent tables.
 use crate::aggregate::Aggregate;
+use crate::heads::Heads;
 use deque::compare::Extreme;
 use deque::extremes::Deque;
 use deque::sums::Sums;
@@ -13,7 +14,7 @@ ghost use Rattle.window.specs.Queries.{countLimit};
 ghost use Rattle.deque.specs.Rings.{Fits};
 ghost use Rattle.deque.specs.Sums.{sumLimit};
 ghost use Rattle.board.specs.Tables.{tables, tablesLong};
-ghost use Rattle.board.specs.Boards.{totalLimit, Usable, Within, CloseEnsures, ValueEnsures, EmptyEnsures};
+ghost use Rattle.board.specs.Boards.{totalLimit, Usable, Within, CloseEnsures, ValueEnsures, HeadsEnsures, EmptyEnsures};
 
 pub struct Board {
     // P: the count of what is closed.
@@ -79,7 +80,7 @@ impl Board {
         deque_fits(self.minima, closed)
     }
 
-    // The aggregate a closes, what starts before the horizon being evicted first.
+    // The aggregate a closes. All three rings are evicted, of what starts before the horizon, before any is written.
     pub fn close(
         self,
         a: Aggregate,
@@ -97,31 +98,14 @@ impl Board {
             self (tables (now (starts .entry)) (now (sums .entry)) (now («max_starts» .entry)) (now («max_values» .entry)) (now («min_starts» .entry)) (now («min_values» .entry)))
             r (tables (now (starts .exit)) (now (sums .exit)) (now («max_starts» .exit)) (now («max_values» .exit)) (now («min_starts» .exit)) (now («min_values» .exit))) ⌝ }
     {
-        let before = self.sums;
-        let closed = before.close(starts, sums, horizon, a.start, a.sum);
-        let before = self.maxima;
-        let maxima = before.close(
-            Extreme::Maximum,
-            max_starts,
-            max_values,
-            horizon,
-            a.start,
-            a.maximum,
-        );
-        let before = self.minima;
-        let minima = before.close(
-            Extreme::Minimum,
-            min_starts,
-            min_values,
-            horizon,
-            a.start,
-            a.minimum,
-        );
+        let partials = self.sums.evict(starts, horizon);
+        let maxima = self.maxima.evict(max_starts, horizon);
+        let minima = self.minima.evict(min_starts, horizon);
         Board {
+            sums: partials.close(starts, sums, a.start, a.sum),
+            maxima: maxima.close(Extreme::Maximum, max_starts, max_values, a.start, a.maximum),
+            minima: minima.close(Extreme::Minimum, min_starts, min_values, a.start, a.minimum),
             closed: self.closed + 1,
-            sums: closed,
-            maxima,
-            minima,
         }
     }
 
@@ -152,5 +136,27 @@ impl Board {
         }
         let minima = self.minima;
         minima.extreme_from(min_starts, min_values, from) as i64
+    }
+
+    // The values of the three kinds over all that is closed and starts at the horizon or later.
+    pub fn heads(
+        self,
+        horizon: Count,
+        starts: &[Count],
+        sums: &[i64],
+        max_starts: &[Count],
+        max_values: &[i32],
+        min_starts: &[Count],
+        min_values: &[i32],
+    ) -> Heads
+        requires { ⌜ Usable self
+            × (tablesLong (tables (now starts) (now sums) (now «max_starts») (now «max_values») (now «min_starts») (now «min_values»)) ≡ true) ⌝ }
+        ensures { λ r. ⌜ HeadsEnsures horizon self (tables (now (starts .entry)) (now (sums .entry)) (now («max_starts» .entry)) (now («max_values» .entry)) (now («min_starts» .entry)) (now («min_values» .entry))) r ⌝ }
+    {
+        Heads {
+            sum: self.sums.sum_from(starts, sums, horizon),
+            maximum: self.maxima.extreme_from(max_starts, max_values, horizon),
+            minimum: self.minima.extreme_from(min_starts, min_values, horizon),
+        }
     }
 }

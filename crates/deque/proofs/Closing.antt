@@ -1,5 +1,5 @@
--- The laws of the closing step of a monotonic deque and of its first entry from a place on, as the code goes. They hold
--- of entries of any type with a start: `content` gives the entry at a place of the tables.
+-- The laws of a monotonic deque as the code goes: the loop over its tail, eviction, its first entry from a place on, and
+-- the closing step. They hold of entries of any type with a start: `content` gives the entry at a place of the tables.
 -- Assumes nothing.
 use Prim.Native.Nat.{ℕ, _+_, _-_, _<_, _≤_, min}
 use mathlib.Core.Path.{_≡_, refl, sym, ap, ap₂, _∙_}
@@ -13,7 +13,7 @@ use Rattle.window.specs.Standing.{atMost, oneIfAny, frontOf, evicted}
 use Rattle.window.specs.Invariant.{Sorted}
 use Rattle.deque.specs.declared.ring.Ring.{Ring}
 use Rattle.deque.specs.Rings.{capacity, place, listed, view, entryWith, startAt, startsOf, advanced, withRoom, grown, countBefore, NeverFalls}
-use Rattle.deque.specs.Extremes.{entryAt, entriesOf, trimmed, closedWith, closingCost}
+use Rattle.deque.specs.Extremes.{entryAt, entriesOf, trimmed, trimComparisons, closedWith}
 use Rattle.deque.proofs.Listed.{listed-none, listed-front, listed-back, length-listed, listed-drop}
 use Rattle.deque.proofs.Rings.{ringOf, view-advanced, listed-rising, listed-evicted, view-pushed, newest-more}
 use Rattle.deque.proofs.Stores.{entry-other, entry-same}
@@ -46,12 +46,13 @@ module _ {A : Type 0} (content : ℕ → Entry A) (starts : List ℕ) (same : (p
   pub sorted-view : Sorted (view content r) → NeverFalls (startsOf starts r)
   sorted-view = listed-rising (r .len) (λ j. content (place (r .head) j)) (λ j. startAt starts (place (r .head) j)) (λ j. same (place (r .head) j))
 
-  -- what is left once the entries before h are evicted
+  -- as many entries dropped as start before h: those are left that eviction leaves
   dropped-view : (h k : ℕ) → k ≡ countBefore h (startsOf starts r) → drop k (view content r) ≡ evicted h (view content r)
   dropped-view = listed-evicted (r .len) (λ j. content (place (r .head) j)) (λ j. startAt starts (place (r .head) j)) (λ j. same (place (r .head) j))
 
-  evicted-view : (h : ℕ) → view content (advanced (countBefore h (startsOf starts r)) r) ≡ evicted h (view content r)
-  evicted-view h = view-advanced content (countBefore h (startsOf starts r)) r ∙ dropped-view h (countBefore h (startsOf starts r)) refl
+  -- what evicting leaves
+  pub evicted-view : (h : ℕ) (kept : Ring) → kept ≡ advanced (countBefore h (startsOf starts r)) r → view content kept ≡ evicted h (view content r)
+  evicted-view h kept e = ap (view content) e ∙ view-advanced content (countBefore h (startsOf starts r)) r ∙ dropped-view h (countBefore h (startsOf starts r)) refl
 
   -- ---- the first entry from a place on
 
@@ -72,49 +73,40 @@ module _ {A : Type 0} (content : ℕ → Entry A) (starts : List ℕ) (same : (p
     pub front-missing : r .len ≤ first → none ≡ frontOf none (evicted from (view content r))
     front-missing l = sym (ap (frontOf none) (found-view ∙ listed-none (r .len - first) (λ j. content (place (r .head) (first + j))) (omega arith)))
 
-  -- ---- the closing of y. `kept` is what eviction leaves, and of it the loop leaves the first `left`
+-- ---- the closing of y. Of the ring r the loop leaves the first `left`
 
-  module _ (below : A → A → Bool) (y : Entry A) (h : ℕ) (kept : Ring) (left : ℕ) (evict : kept ≡ advanced (countBefore h (startsOf starts r)) r)
-      (trim : view content (ringOf (kept .head) left) ≡ trimmed below y (view content kept)) where
-    kept-view : view content kept ≡ evicted h (view content r)
-    kept-view = ap (view content) evict ∙ evicted-view h
+module _ {A : Type 0} (content : ℕ → Entry A) (r : Ring) (below : A → A → Bool) (y : Entry A) (left : ℕ)
+    (trim : view content (ringOf (r .head) left) ≡ trimmed below y (view content r)) where
+  left-length : left ≡ length (trimmed below y (view content r))
+  left-length = sym (length-listed left (λ j. content (place (r .head) j))) ∙ ap length trim
 
-    left-view : view content (ringOf (kept .head) left) ≡ trimmed below y (evicted h (view content r))
-    left-view = trim ∙ ap (trimmed below y) kept-view
+  -- what the comparisons come to
+  pub cost-is : (total before : ℕ) → total ≡ before + ((r .len - left) + min 1 left) → total ≡ before + trimComparisons below y (view content r)
+  cost-is total before e = rw (oneIfAny-length (trimmed below y (view content r)), ← left-length, length-listed (r .len) (λ j. content (place (r .head) j))) e
 
-    kept-length : kept .len ≡ length (evicted h (view content r))
-    kept-length = sym (length-listed (kept .len) (λ j. content (place (kept .head) j))) ∙ ap length kept-view
-
-    left-length : left ≡ length (trimmed below y (evicted h (view content r)))
-    left-length = sym (length-listed left (λ j. content (place (kept .head) j))) ∙ ap length left-view
-
-    -- what the comparisons come to
-    pub cost-is : (total before : ℕ) → total ≡ before + ((kept .len - left) + min 1 left) → total ≡ before + closingCost below y h (view content r)
-    cost-is total before e = rw (oneIfAny-length (trimmed below y (evicted h (view content r))), ← left-length, ← kept-length) e
-
-    -- the view with y after what is left; `after` gives the entries once y is stored
-    pub closed-view : (after : ℕ → Entry A) (room : Ring) → room ≡ withRoom (ringOf (kept .head) left)
-        → ((j : ℕ) → j < room .len → after (place (room .head) j) ≡ content (place (room .head) j)) → after (place (room .head) (room .len)) ≡ y
-        → view after (grown room) ≡ closedWith below y h (view content r)
-    closed-view after room e others new =
-        view-pushed content after y (room .head) (room .len) others new
-        ∙ ap (λ (es : List (Entry A)). es ++ (y ∷ []))
-        (ap (view content) e ∙ view-advanced content (left + 1 - capacity) (ringOf (kept .head) left) ∙ ap₂ drop (ap (λ (k : ℕ). k + 1 - capacity) left-length) left-view)
-        ∙ sym (newest-more (trimmed below y (evicted h (view content r))) y)
+  -- the view with y after what is left; `after` gives the entries once y is stored
+  pub closed-view : (after : ℕ → Entry A) (room : Ring) → room ≡ withRoom (ringOf (r .head) left)
+      → ((j : ℕ) → j < room .len → after (place (room .head) j) ≡ content (place (room .head) j)) → after (place (room .head) (room .len)) ≡ y
+      → view after (grown room) ≡ closedWith below y (view content r)
+  closed-view after room e others new =
+      view-pushed content after y (room .head) (room .len) others new
+      ∙ ap (λ (es : List (Entry A)). es ++ (y ∷ []))
+      (ap (view content) e ∙ view-advanced content (left + 1 - capacity) (ringOf (r .head) left) ∙ ap₂ drop (ap (λ (k : ℕ). k + 1 - capacity) left-length) trim)
+      ∙ sym (newest-more (trimmed below y (view content r)) y)
 
 -- ---- on tables of starts and values
 
-module _ (below : ℤ → ℤ → Bool) (starts : List ℕ) (values : List ℤ) (r : Ring) (h s : ℕ) (v : ℤ) (kept : Ring) (left : ℕ) (few : left ≤ capacity)
-    (evict : kept ≡ advanced (countBefore h (startsOf starts r)) r) (trim : entriesOf starts values (ringOf (kept .head) left) ≡ trimmed below (entryWith s v) (entriesOf starts values kept)) where
+module _ (below : ℤ → ℤ → Bool) (starts : List ℕ) (values : List ℤ) (r : Ring) (s : ℕ) (v : ℤ) (left : ℕ) (few : left ≤ capacity)
+    (trim : entriesOf starts values (ringOf (r .head) left) ≡ trimmed below (entryWith s v) (entriesOf starts values r)) where
   -- the view after the closing: the new entry is stored at place q
   pub closed-tables : (ring₁ : Ring) (starts₁ : List ℕ) (q : ℕ) (v₁ : ℤ) → capacity ≤ length starts → capacity ≤ length values
-      → ring₁ ≡ grown (withRoom (ringOf (kept .head) left)) → q ≡ place (withRoom (ringOf (kept .head) left) .head) (withRoom (ringOf (kept .head) left) .len)
+      → ring₁ ≡ grown (withRoom (ringOf (r .head) left)) → q ≡ place (withRoom (ringOf (r .head) left) .head) (withRoom (ringOf (r .head) left) .len)
       → starts₁ ≡ set starts q s → v₁ ≡ v
-      → entriesOf starts₁ (set values q v₁) ring₁ ≡ closedWith below (entryWith s v) h (entriesOf starts values r)
+      → entriesOf starts₁ (set values q v₁) ring₁ ≡ closedWith below (entryWith s v) (entriesOf starts values r)
   closed-tables ring₁ starts₁ q v₁ long wide er eq es ev =
       rw (er, es, ev)
-      (closed-view (entryAt starts values) starts (λ p. refl) r below (entryWith s v) h kept left evict trim (entryAt (set starts q s) (set values q v)) room refl
+      (closed-view (entryAt starts values) r below (entryWith s v) left trim (entryAt (set starts q s) (set values q v)) room refl
       (entry-other q (room .head) (room .len) eq starts values s v (omega arith)) (entry-same q (room .head) (room .len) eq starts values s v long wide))
     where
       room : Ring
-      room = withRoom (ringOf (kept .head) left)
+      room = withRoom (ringOf (r .head) left)

@@ -22,7 +22,7 @@ use Rattle.window.specs.Invariant.{Sorted}
 use Rattle.window.proofs.Lists.{le-cases}
 use Rattle.deque.specs.declared.ring.Ring.{Ring}
 use Rattle.deque.specs.declared.sums.Sums.{Sums}
-use Rattle.deque.specs.Rings.{capacity, place, Fits, listed, entryWith, startAt, startsOf, advanced, withRoom, countBefore, NeverFalls, BeyondKept, newest}
+use Rattle.deque.specs.Rings.{capacity, place, Fits, listed, entryWith, startAt, startsOf, advanced, withRoom, countBefore, NeverFalls, BeyondKept, appended}
 use Rattle.deque.specs.Sums.{sumAt, newestPlace, lapBehind, sumFromPlace, sumFrom, partialAt, partialsOf, sumLimit, lapLimit, FitsSums, InBounds}
 use Rattle.deque.proofs.Listed.{listed-cong, length-listed, listed-none, listed-drop, listed-more}
 use Rattle.deque.proofs.Rings.{count-le, listed-rising, listed-evicted, newest-more}
@@ -316,7 +316,7 @@ module _ (starts : List ℕ) (sums : List ℤ) (s : Sums) (j : ℕ) (l : j < s .
     pub sum-in-lap : p ≤ newestPlace s → s .lap -ℤ z ≡ sum (map valueOf (drop j (partialsOf starts sums s)))
     sum-in-lap m = ap (λ t. s .lap -ℤ t) read ∙ sym (sum-from-place ∙ ap (sumFromPlace sums s) (sym here) ∙ place-in-lap sums s p (le-ltb (newestPlace s) p m))
 
--- ---- the closing step
+-- ---- evicting, as the code goes
 
 -- what evicting leaves: as many go as start before h
 pub partials-evicted : (starts : List ℕ) (sums : List ℤ) (s : Sums) (h k : ℕ) → k ≡ countBefore h (startsOf starts (s .ring)) → drop k (partialsOf starts sums s) ≡ evicted h (partialsOf starts sums s)
@@ -326,56 +326,68 @@ partials-evicted starts sums s = listed-evicted (s .ring .len) (partialAt starts
 pub partials-rising : (starts : List ℕ) (sums : List ℤ) (s : Sums) → Sorted (partialsOf starts sums s) → NeverFalls (startsOf starts (s .ring))
 partials-rising starts sums s = listed-rising (s .ring .len) (partialAt starts sums s) (λ j. startAt starts (place (s .ring .head) j)) (λ j. refl)
 
--- what the closing step ensures of the tables and the state before and after, for a partial that starts at `start` with
--- the sum x
-abbrev pub Closes : (starts starts₁ : List ℕ) (sums sums₁ : List ℤ) (s s₁ : Sums) (h start : ℕ) (x : ℤ) → Type 0
-Closes starts starts₁ sums sums₁ s s₁ h start x =
+-- what evicting ensures of the state before and after, with the horizon h
+abbrev pub Evicts : (starts : List ℕ) (s s₁ : Sums) (h : ℕ) → Type 0
+Evicts starts s s₁ h =
     FitsSums s₁
-    × ((partialsOf starts₁ sums₁ s₁ ≡ newest capacity (evicted h (partialsOf starts sums s) ++ (entryWith start x ∷ [])))
-    × ((InBounds sums s → InBounds sums₁ s₁) × (BeyondKept starts starts₁ × BeyondKept sums sums₁)))
+    × (((sums : List ℤ) → partialsOf starts sums s₁ ≡ evicted h (partialsOf starts sums s))
+    × (((sums : List ℤ) → InBounds sums s → InBounds sums s₁) × ((s₁ .lap ≡ s .lap) × (s₁ .previous ≡ s .previous))))
 
--- `kept` is the ring after eviction, and `room` that with room for one more
-module _ (starts : List ℕ) (s : Sums) (h : ℕ) (kept room : Ring) (evict : kept ≡ advanced (countBefore h (startsOf starts (s .ring))) (s .ring))
-    (spare : room ≡ withRoom kept) where
+-- `kept` is the ring after eviction
+module _ (starts : List ℕ) (s : Sums) (h : ℕ) (kept : Ring) (evict : kept ≡ advanced (countBefore h (startsOf starts (s .ring))) (s .ring)) where
   count-within : countBefore h (startsOf starts (s .ring)) ≤ s .ring .len
   count-within = omega (arith, count-le h (startsOf starts (s .ring)), length-listed (s .ring .len) (λ j. startAt starts (place (s .ring .head) j)))
 
-  spare-within : kept .len + 1 - capacity ≤ kept .len
+  -- all that evicting ensures
+  pub evicted-all : (s₁ : Sums) → FitsSums s → s₁ ≡ onRing kept s → Evicts starts s s₁ h
+  evicted-all s₁ f e =
+      rw e (
+        evicted-fits s kept _ count-within evict f,
+        (
+          (λ sums. evicted-partials s kept _ count-within evict starts sums ∙ partials-evicted starts sums s h _ refl),
+          (evicted-bounds s kept _ count-within evict, (refl, refl)),
+        ),
+      )
+
+-- ---- the closing step
+
+-- what the closing step ensures of the tables and the state before and after, for a partial that starts at `start` with
+-- the sum x
+abbrev pub Closes : (starts starts₁ : List ℕ) (sums sums₁ : List ℤ) (s s₁ : Sums) (start : ℕ) (x : ℤ) → Type 0
+Closes starts starts₁ sums sums₁ s s₁ start x =
+    FitsSums s₁
+    × ((partialsOf starts₁ sums₁ s₁ ≡ appended (entryWith start x) (partialsOf starts sums s))
+    × ((InBounds sums s → InBounds sums₁ s₁) × (BeyondKept starts starts₁ × BeyondKept sums sums₁)))
+
+-- `room` is the ring with room for one more
+module _ (starts : List ℕ) (s : Sums) (room : Ring) (spare : room ≡ withRoom (s .ring)) (f : FitsSums s) where
+  spare-within : s .ring .len + 1 - capacity ≤ s .ring .len
   spare-within = omega arith
 
   -- the state still fits
-  pub ready-fits : FitsSums s → FitsSums (onRing room s)
-  ready-fits f = evicted-fits (onRing kept s) room (kept .len + 1 - capacity) spare-within spare (evicted-fits s kept _ count-within evict f)
-
-  -- the numbers of the table are still within their bound
-  pub ready-bounds : (sums : List ℤ) → InBounds sums s → InBounds sums (onRing room s)
-  ready-bounds sums b = evicted-bounds (onRing kept s) room (kept .len + 1 - capacity) spare-within spare sums (evicted-bounds s kept _ count-within evict sums b)
-
-  kept-partials : (sums : List ℤ) → partialsOf starts sums (onRing kept s) ≡ evicted h (partialsOf starts sums s)
-  kept-partials sums = evicted-partials s kept _ count-within evict starts sums ∙ partials-evicted starts sums s h _ refl
-
-  kept-length : (sums : List ℤ) → kept .len ≡ length (evicted h (partialsOf starts sums s))
-  kept-length sums = sym (length-listed (kept .len) (partialAt starts sums (onRing kept s))) ∙ ap length (kept-partials sums)
+  ready-fits : FitsSums (onRing room s)
+  ready-fits = evicted-fits s room (s .ring .len + 1 - capacity) spare-within spare f
 
   -- with the new entry: all of it where there is room, and else without the oldest
-  pub closed-partials : {sums sums₁ : List ℤ} {s₁ : Sums} {q : ℕ} {v x : ℤ} → Pushed sums sums₁ (onRing room s) s₁ q v x
+  closed-partials : {sums sums₁ : List ℤ} {s₁ : Sums} {q : ℕ} {v x : ℤ} → Pushed sums sums₁ (onRing room s) s₁ q v x
       → (starts₁ : List ℕ) (start : ℕ) → capacity ≤ length starts → starts₁ ≡ set starts q start
-      → partialsOf starts₁ sums₁ s₁ ≡ newest capacity (evicted h (partialsOf starts sums s) ++ (entryWith start x ∷ []))
+      → partialsOf starts₁ sums₁ s₁ ≡ appended (entryWith start x) (partialsOf starts sums s)
   closed-partials {sums} {sums₁} {s₁} {q} {v} {x} c starts₁ start long e =
       pushed-partials c starts starts₁ start long e
       ∙ ap (λ (es : List (Entry ℤ)). es ++ (entryWith start x ∷ []))
-      (evicted-partials (onRing kept s) room (kept .len + 1 - capacity) spare-within spare starts sums ∙ ap₂ drop (ap (λ (n : ℕ). n + 1 - capacity) (kept-length sums)) (kept-partials sums))
-      ∙ sym (newest-more (evicted h (partialsOf starts sums s)) (entryWith start x))
+      (evicted-partials s room (s .ring .len + 1 - capacity) spare-within spare starts sums
+      ∙ ap (λ (n : ℕ). drop (n + 1 - capacity) (partialsOf starts sums s)) (sym (length-listed (s .ring .len) (partialAt starts sums s))))
+      ∙ sym (newest-more (partialsOf starts sums s) (entryWith start x))
 
   -- all that the closing step ensures
-  pub closed-all : {sums sums₁ : List ℤ} {s₁ : Sums} {q : ℕ} {v x : ℤ} → FitsSums s → Small sumLimit x → Pushed sums sums₁ (onRing room s) s₁ q v x
-      → (starts₁ : List ℕ) (start : ℕ) → capacity ≤ length starts → starts₁ ≡ set starts q start → Closes starts starts₁ sums sums₁ s s₁ h start x
-  closed-all {sums} {sums₁} {s₁} {q} {v} {x} f m c starts₁ start long e = (
-    pushed-fits c (ready-fits f) m,
+  pub closed-all : {sums sums₁ : List ℤ} {s₁ : Sums} {q : ℕ} {v x : ℤ} → Small sumLimit x → Pushed sums sums₁ (onRing room s) s₁ q v x
+      → (starts₁ : List ℕ) (start : ℕ) → capacity ≤ length starts → starts₁ ≡ set starts q start → Closes starts starts₁ sums sums₁ s s₁ start x
+  closed-all {sums} {sums₁} {s₁} {q} {v} {x} m c starts₁ start long e = (
+    pushed-fits c ready-fits m,
     (
       closed-partials c starts₁ start long e,
       (
-        (λ b. pushed-bounds c (ready-fits f) (ready-bounds sums b)),
+        (λ b. pushed-bounds c ready-fits (evicted-bounds s room (s .ring .len + 1 - capacity) spare-within spare sums b)),
         (rw e (store-beyond q (room .head) (room .len) (c .next) starts start), rw (c .stored) (store-beyond q (room .head) (room .len) (c .next) sums v)),
       ),
     ),

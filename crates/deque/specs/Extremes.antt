@@ -2,18 +2,18 @@
 -- Assumes nothing.
 use Prim.Native.Nat.{ℕ, _+_, _-_}
 use mathlib.Core.Bool.{Bool, cond}
-use mathlib.Core.List.{List, [], _∷_, _++_}
+use mathlib.Core.List.{List, [], _∷_}
 use lib.IntN.{ℤ, pos}
 use lib.Signed.{leZ}
 use lib.ListN.{length, getD}
 use Rattle.window.specs.Lists.{all}
 use Rattle.window.specs.Orders.{geZ}
 use Rattle.window.specs.Partials.{Entry}
-use Rattle.window.specs.Standing.{atMost, oneIfAny, evicted}
+use Rattle.window.specs.Standing.{atMost, oneIfAny}
 use Rattle.deque.specs.declared.compare.Extreme.{Extreme}
 use Rattle.deque.specs.declared.compare.Extreme.the-variants.{Maximum, Minimum}
 use Rattle.deque.specs.declared.ring.Ring.{Ring}
-use Rattle.deque.specs.Rings.{capacity, view, entryWith, startAt, newest}
+use Rattle.deque.specs.Rings.{view, entryWith, startAt, appended}
 
 -- the order of maxima is "at most", that of minima "at least"
 abbrev pub orderOf : Extreme → ℤ → ℤ → Bool
@@ -34,15 +34,11 @@ module _ {A : Type 0} (below : A → A → Bool) (y : Entry A) where
   trimmed [] = []
   trimmed (x ∷ xs) = cond (all (λ (z : Entry A). atMost below z y) (x ∷ xs)) [] (x ∷ trimmed xs)
 
-  -- what that costs: one comparison for each that is dropped, and one more if any is left
+  -- what that costs (document 01: what a closing adds to M or N): one comparison for each that is dropped, and one more
+  -- if any is left
   abbrev pub trimComparisons : List (Entry A) → ℕ
   trimComparisons xs = (length xs - length (trimmed xs)) + oneIfAny (trimmed xs)
 
-  -- the closing of y: first those that start before the horizon are evicted (document 01: set aside), then those at the
-  -- end that are at most y are dropped, and y joins the end. A full ring drops its oldest
-  abbrev pub closedWith : ℕ → List (Entry A) → List (Entry A)
-  closedWith horizon xs = newest capacity (trimmed (evicted horizon xs) ++ (y ∷ []))
-
-  -- the comparisons of that closing
-  abbrev pub closingCost : ℕ → List (Entry A) → ℕ
-  closingCost horizon xs = trimComparisons (evicted horizon xs)
+  -- the closing of y: of what eviction left, the entries at the end that are at most y are dropped, and y joins the end
+  abbrev pub closedWith : List (Entry A) → List (Entry A)
+  closedWith xs = appended y (trimmed xs)

@@ -3,7 +3,7 @@
 use Prim.Native.Nat.{ℕ, zero, suc, _+_, _-_, _%_, _≤_, _<_}
 use mathlib.Core.Path.{_≡_}
 use mathlib.Core.Bool.{cond}
-use mathlib.Core.List.{List, [], _∷_}
+use mathlib.Core.List.{List, [], _∷_, _++_}
 use lib.ListN.{length, getD, drop}
 use Rattle.window.specs.Lists.{Each}
 use Rattle.window.specs.Partials.{Entry, live}
@@ -74,3 +74,7 @@ BeyondKept before after = drop capacity after ≡ drop capacity before
 -- the newest n of a list
 abbrev pub newest : {A : Type 0} → ℕ → List A → List A
 newest n xs = drop (length xs - n) xs
+
+-- the entries of a ring with y after the newest: a full ring drops its oldest
+abbrev pub appended : {A : Type 0} → A → List A → List A
+appended y xs = newest capacity (xs ++ (y ∷ []))

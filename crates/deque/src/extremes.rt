@@ -12,7 +12,7 @@ ghost use lib.ListN.{length};
 ghost use Rattle.window.specs.Standing.{evicted, frontOf};
 ghost use Rattle.window.specs.Invariant.{Sorted};
 ghost use Rattle.deque.specs.Rings.{capacity, Fits, entryWith, BeyondKept};
-ghost use Rattle.deque.specs.Extremes.{orderOf, entriesOf, closedWith, closingCost};
+ghost use Rattle.deque.specs.Extremes.{orderOf, entriesOf, closedWith, trimComparisons};
 
 // The ring of the entries, and the total of the comparisons made (document 01: M or N).
 pub struct Deque {
@@ -34,33 +34,46 @@ impl Deque {
         }
     }
 
-    // The closing step: the partial that starts at `start` closes with `value`.
+    // Without the oldest entries that start before the horizon.
+    pub fn evict(self, starts: &[Count], horizon: Count) -> Deque
+        requires { ⌜ Fits (self .ring) × (capacity ≤ length (now starts)) ⌝ }
+        ensures fits { λ r. ⌜ Fits (r .ring) ⌝ }
+        ensures entries { λ r. ⌜ ((values : List ℤ) → entriesOf (now (starts .entry)) values (r .ring) ≡ evicted horizon (entriesOf (now (starts .entry)) values (self .ring))) ⌝ }
+        ensures cost { λ r. ⌜ r .comparisons ≡ self .comparisons ⌝ }
+    {
+        let ring = self.ring;
+        let kept = ring.evict(starts, horizon);
+        Deque {
+            ring: kept,
+            comparisons: self.comparisons,
+        }
+    }
+
+    // The closing step, once the deque is evicted: the partial that starts at `start` closes with `value`.
     pub fn close(
         self,
         extreme: Extreme,
         starts: &mut [Count],
         values: &mut [i32],
-        horizon: Count,
         start: Count,
         value: i32,
     ) -> Deque
         requires { ⌜ Fits (self .ring) × (capacity ≤ length (now starts)) × (capacity ≤ length (now values)) × (self .comparisons + capacity < 2 ^ 64) ⌝ }
         ensures fits { λ r. ⌜ Fits (r .ring) ⌝ }
         ensures entries { λ r. ⌜ entriesOf (now (starts .exit)) (now (values .exit)) (r .ring)
-            ≡ closedWith (orderOf extreme) (entryWith start value) horizon (entriesOf (now (starts .entry)) (now (values .entry)) (self .ring)) ⌝ }
+            ≡ closedWith (orderOf extreme) (entryWith start value) (entriesOf (now (starts .entry)) (now (values .entry)) (self .ring)) ⌝ }
         ensures cost { λ r. ⌜ r .comparisons
-            ≡ self .comparisons + closingCost (orderOf extreme) (entryWith start value) horizon (entriesOf (now (starts .entry)) (now (values .entry)) (self .ring)) ⌝ }
+            ≡ self .comparisons + trimComparisons (orderOf extreme) (entryWith start value) (entriesOf (now (starts .entry)) (now (values .entry)) (self .ring)) ⌝ }
         ensures beyond { λ r. ⌜ BeyondKept (now (starts .entry)) (now (starts .exit)) × BeyondKept (now (values .entry)) (now (values .exit)) ⌝ }
     {
         let ring = self.ring;
-        let kept = ring.evict(starts, horizon);
-        let mut len = kept.len;
+        let mut len = ring.len;
         let mut total = self.comparisons;
         let left = loop {
             if len == 0 {
                 break 0;
             }
-            let last = kept.place(len - 1);
+            let last = ring.place(len - 1);
             let compared = compare(extreme, values[last], value, total);
             total = compared.total;
             if !compared.verdict {
@@ -69,7 +82,7 @@ impl Deque {
             len -= 1;
         };
         let trimmed = Ring {
-            head: kept.head,
+            head: ring.head,
             len: left,
         };
         let pushed = trimmed.push(starts, start);

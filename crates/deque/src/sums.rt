@@ -4,7 +4,7 @@ use crate::ring::Ring;
 use window::count::Count;
 ghost use mathlib.Core.Path.{_≡_};
 ghost use mathlib.Core.Bool.{true};
-ghost use mathlib.Core.List.{List, [], _∷_, _++_, map};
+ghost use mathlib.Core.List.{List, [], map};
 ghost use Prim.Native.Nat.{ℕ, _*_, _<_, _≤_};
 ghost use lib.IntN.{ℤ};
 ghost use lib.ListN.{length};
@@ -13,7 +13,7 @@ ghost use Rattle.window.specs.Orders.{sum};
 ghost use Rattle.window.specs.Partials.{valueOf};
 ghost use Rattle.window.specs.Standing.{evicted};
 ghost use Rattle.window.specs.Invariant.{Sorted};
-ghost use Rattle.deque.specs.Rings.{capacity, entryWith, BeyondKept, newest};
+ghost use Rattle.deque.specs.Rings.{capacity, entryWith, appended, BeyondKept};
 ghost use Rattle.deque.specs.Sums.{partialsOf, sumLimit, lapPlaces, FitsSums, InBounds};
 
 // The greatest size of a partial's sum: 2^47, the sum of 65,536 readings.
@@ -73,25 +73,34 @@ impl Sums {
         ints::is_small(LAP_LIMIT, self.previous)
     }
 
-    // The closing step: the partial that starts at `start` closes with `sum`.
-    pub fn close(
-        self,
-        starts: &mut [Count],
-        sums: &mut [i64],
-        horizon: Count,
-        start: Count,
-        sum: i64,
-    ) -> Sums
+    // Without the oldest partials that start before the horizon.
+    pub fn evict(self, starts: &[Count], horizon: Count) -> Sums
+        requires { ⌜ FitsSums self × (capacity ≤ length (now starts)) ⌝ }
+        ensures fits { λ r. ⌜ FitsSums r ⌝ }
+        ensures entries { λ r. ⌜ ((sums : List ℤ) → partialsOf (now (starts .entry)) sums r ≡ evicted horizon (partialsOf (now (starts .entry)) sums self)) ⌝ }
+        ensures bounds { λ r. ⌜ ((sums : List ℤ) → InBounds sums self → InBounds sums r) ⌝ }
+        ensures laps { λ r. ⌜ (r .lap ≡ self .lap) × (r .previous ≡ self .previous) ⌝ }
+    {
+        let ring = self.ring;
+        let kept = ring.evict(starts, horizon);
+        Sums {
+            ring: kept,
+            lap: self.lap,
+            previous: self.previous,
+        }
+    }
+
+    // The closing step, once the ring is evicted: the partial that starts at `start` closes with `sum`.
+    pub fn close(self, starts: &mut [Count], sums: &mut [i64], start: Count, sum: i64) -> Sums
         requires { ⌜ FitsSums self × (capacity ≤ length (now starts)) × (capacity ≤ length (now sums)) × Small sumLimit sum ⌝ }
         ensures fits { λ r. ⌜ FitsSums r ⌝ }
         ensures entries { λ r. ⌜ partialsOf (now (starts .exit)) (now (sums .exit)) r
-            ≡ newest capacity (evicted horizon (partialsOf (now (starts .entry)) (now (sums .entry)) self) ++ (entryWith start sum ∷ [])) ⌝ }
+            ≡ appended (entryWith start sum) (partialsOf (now (starts .entry)) (now (sums .entry)) self) ⌝ }
         ensures bounds { λ r. ⌜ (InBounds (now (sums .entry)) self → InBounds (now (sums .exit)) r) ⌝ }
         ensures beyond { λ r. ⌜ BeyondKept (now (starts .entry)) (now (starts .exit)) × BeyondKept (now (sums .entry)) (now (sums .exit)) ⌝ }
     {
         let ring = self.ring;
-        let kept = ring.evict(starts, horizon);
-        let pushed = kept.push(starts, start);
+        let pushed = ring.push(starts, start);
         let p = pushed.place;
         let ring = pushed.ring;
         let lap = self.lap;

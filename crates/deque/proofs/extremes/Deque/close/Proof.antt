@@ -22,21 +22,17 @@ use Rattle.deque.proofs.extremes.Deque.close.Tie as tie
 use Rattle.deque.proofs.extremes.Deque.close.Reads as reads
 use Rattle.deque.proofs.extremes.Deque.close.Lts as lts
 use Rattle.deque.proofs.compare.compare.Reads as compare-reads
-use Rattle.deque.proofs.ring.Ring.evict.Reads as evict-reads
 use Rattle.deque.proofs.ring.Ring.place.Reads as place-reads
 use Rattle.deque.proofs.ring.Ring.push.Reads as push-reads
 
 -- so many went, at one comparison each, and dropping on from what is left leaves what dropping from all leaves
 abbrev Inv-loop : tie.InvT-loop
-Inv-loop extreme starts values horizon start value kept len₀ total₀ len total =
-    (len ≤ kept .len) × (total ≡ total₀ + (kept .len - len))
-    × (trimmed (orderOf extreme) (entryWith start (toZ w32 value)) (entriesOf starts values (ringOf (kept .head) len)) ≡ trimmed (orderOf extreme) (entryWith start (toZ w32 value)) (entriesOf starts values kept))
+Inv-loop extreme starts values start value ring len₀ total₀ len total =
+    (len ≤ ring .len) × (total ≡ total₀ + (ring .len - len))
+    × (trimmed (orderOf extreme) (entryWith start (toZ w32 value)) (entriesOf starts values (ringOf (ring .head) len)) ≡ trimmed (orderOf extreme) (entryWith start (toZ w32 value)) (entriesOf starts values ring))
 
 abbrev μ-loop : tie.MeasureT-loop
-μ-loop extreme starts values horizon start value kept len₀ total₀ len total = len
-
-evict-requires : tie.Need-evict-requires Inv-loop μ-loop
-evict-requires c κs = omega arith
+μ-loop extreme starts values start value ring len₀ total₀ len total = len
 
 loop-holds : tie.Need-loop-holds Inv-loop μ-loop
 loop-holds c = (omega arith, omega arith, refl)
@@ -64,11 +60,11 @@ loop-less c = omega arith
 
 -- the start, from the head of the loop
 abbrev start : tie.At-loop Inv-loop μ-loop → tie.Start Inv-loop μ-loop
-start a = a .before .before .before .before .before
+start a = a .before .before .before
 
--- entry j of the ring that was left by evicting
+-- entry j of the ring
 abbrev entryOf : tie.At-loop Inv-loop μ-loop → ℕ → Entry ℤ
-entryOf a j = entryAt (start a .args .starts .now) (start a .args .values .now) (place (a .before .evict .result .head) j)
+entryOf a j = entryAt (start a .args .starts .now) (start a .args .values .now) (place (start a .args .self .ring .head) j)
 
 -- the entry that closes
 abbrev new : tie.At-loop Inv-loop μ-loop → Entry ℤ
@@ -100,8 +96,8 @@ loop-again c =
 -- what the loop leaves: how many entries, and the total
 Fact : tie.At-loop Inv-loop μ-loop → ℕ → ℕ → Type 0
 Fact a left total =
-    (left ≤ a .before .evict .result .len) × (total ≡ start a .args .self .comparisons + ((a .before .evict .result .len - left) + min 1 left))
-    × (listed left (entryOf a) ≡ trimmed (order a) (new a) (listed (a .before .evict .result .len) (entryOf a)))
+    (left ≤ start a .args .self .ring .len) × (total ≡ start a .args .self .comparisons + ((start a .args .self .ring .len - left) + min 1 left))
+    × (listed left (entryOf a) ≡ trimmed (order a) (new a) (listed (start a .args .self .ring .len) (entryOf a)))
 
 fact-1 : (c : tie.Then1 Inv-loop μ-loop) → Fact (c .before) 0 (c .before .loop .total)
 unfolding Fact
@@ -130,17 +126,17 @@ joined c =
     (λ w. rw (w .6, w .7) (fact-2 (record { before = record { before = record { before = record { before = record { before = record { before = c .before; if1 = w .0 }; place = w .1 }; compare-arg = w .2 }; compare = w .3 }; struct-known = w .4 }; if2 = w .5 })))
     (c .if1 .came)
 
-left-le : (c : tie.Joined1 Inv-loop μ-loop) → c .if1 .left ≤ c .before .before .evict .result .len
+left-le : (c : tie.Joined1 Inv-loop μ-loop) → c .if1 .left ≤ start (c .before) .args .self .ring .len
 unfolding Fact
 left-le c = joined c .0
 
 total-is : (c : tie.Joined1 Inv-loop μ-loop)
-    → c .if1 .total ≡ start (c .before) .args .self .comparisons + ((c .before .before .evict .result .len - c .if1 .left) + min 1 (c .if1 .left))
+    → c .if1 .total ≡ start (c .before) .args .self .comparisons + ((start (c .before) .args .self .ring .len - c .if1 .left) + min 1 (c .if1 .left))
 unfolding Fact
 total-is c = joined c .1
 
 left-is : (c : tie.Joined1 Inv-loop μ-loop)
-    → listed (c .if1 .left) (entryOf (c .before)) ≡ trimmed (order (c .before)) (new (c .before)) (listed (c .before .before .evict .result .len) (entryOf (c .before)))
+    → listed (c .if1 .left) (entryOf (c .before)) ≡ trimmed (order (c .before)) (new (c .before)) (listed (start (c .before) .args .self .ring .len) (entryOf (c .before)))
 unfolding Fact
 left-is c = joined c .2
 
@@ -164,15 +160,14 @@ returns c =
     let j = c .before .before .before .before .before in
     let s = start (j .before) in
     let a = s .args in
-    let e = j .before .before .evict in
     let p = c .before .before .before .push in
     let o = orderOf (a .extreme) in (
       omega arith,
       (
-        closed-tables o (a .starts .now) (a .values .now) (a .self .ring) (a .horizon) (a .start) (a .value) (e .result) (j .if1 .left) (omega (arith, left-le j)) (e .ensures .1) (left-is j)
+        closed-tables o (a .starts .now) (a .values .now) (a .self .ring) (a .start) (a .value) (j .if1 .left) (omega (arith, left-le j)) (left-is j)
             (p .result .ring) (p .last .1 .0) (p .result .place) (toZ w32 (ofZ w32 (a .value))) (omega arith) (omega arith) (p .ensures .1 .0 .0) (p .ensures .1 .0 .1) (p .ensures .1 .1) (toZ-ofZ (s .fits .value)),
         (
-          cost-is (entryAt (a .starts .now) (a .values .now)) (a .starts .now) (λ q. refl) (a .self .ring) o (entryWith (a .start) (a .value)) (a .horizon) (e .result) (j .if1 .left) (e .ensures .1) (left-is j)
+          cost-is (entryAt (a .starts .now) (a .values .now)) (a .self .ring) o (entryWith (a .start) (a .value)) (j .if1 .left) (left-is j)
               (j .if1 .total) (a .self .comparisons) (total-is j),
           (
             ap (drop capacity) (p .ensures .1 .1) ∙ store-beyond (p .result .place) _ _ (p .ensures .1 .0 .1) (a .starts .now) (a .start),
@@ -188,7 +183,6 @@ close-spec =
     (tie.spec
     Inv-loop
     μ-loop
-    evict-requires
     loop-holds
     sub-place
     place-requires

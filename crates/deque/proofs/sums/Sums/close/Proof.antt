@@ -14,16 +14,15 @@ use Rattle.deque.proofs.sums.Sums.close.Statement.{statement}
 use Rattle.deque.proofs.sums.Sums.close.Tie as tie
 use Rattle.deque.proofs.sums.Sums.close.Reads as reads
 use Rattle.deque.proofs.sums.Sums.close.Lts as lts
-use Rattle.deque.proofs.ring.Ring.evict.Reads as evict-reads
 use Rattle.deque.proofs.ring.Ring.push.Reads as push-reads
 
 -- the start, from the push
 abbrev start : tie.After-push → tie.Start
-start c = c .before .before .before .before .before .before
+start c = c .before .before .before .before
 
 -- the ring that is pushed to, with room
 abbrev room : tie.After-push → Ring
-room c = withRoom (c .before .before .evict .result)
+room c = withRoom (start c .args .self .ring)
 
 -- the state after, with its lap and the lap before
 abbrev after : tie.After-push → ℤ → ℤ → Sums
@@ -36,13 +35,11 @@ sumsAfter c v = set (start c .args .sums .now) (c .push .result .place) v
 -- a push that steps the laps as it should is all that is asked
 closed : (c : tie.After-push) (v lap previous : ℤ) → LapStep (onRing (room c) (start c .args .self)) (after c lap previous) (c .push .result .place) v (start c .args .sum)
     → Closes (start c .args .starts .now) (c .push .last .1 .0) (start c .args .sums .now) (sumsAfter c v) (start c .args .self) (after c lap previous)
-    (start c .args .horizon) (start c .args .start) (start c .args .sum)
+    (start c .args .start) (start c .args .sum)
 closed c v lap previous t =
     let s = start c in
     let a = s .args in
-    let e = c .before .before .evict in
-    closed-all (a .starts .now) (a .self) (a .horizon) (e .result) (room c) (e .ensures .1) refl
-    (s .pre .0) (s .pre .3) pushed (c .push .last .1 .0) (a .start) (omega arith) (c .push .ensures .1 .1)
+    closed-all (a .starts .now) (a .self) (room c) refl (s .pre .0) (s .pre .3) pushed (c .push .last .1 .0) (a .start) (omega arith) (c .push .ensures .1 .1)
   where
     pushed : Pushed (start c .args .sums .now) (sumsAfter c v) (onRing (room c) (start c .args .self)) (after c lap previous) (c .push .result .place) v (start c .args .sum)
     pushed = record {
@@ -78,7 +75,6 @@ pub close-spec : {M : Type 1} → statement M
 close-spec =
     tie.close
     (tie.spec
-    (λ c κs. search needs)
     (λ c κs. search needs)
     (λ c. search needs)
     (λ c. search needs)
