@@ -25,17 +25,35 @@ fn digit_byte(d: u64) -> u8
     48 + d as u8
 }
 
-// The digits of a number. It calls itself for those before the last, at most twenty deep.
+// How many digits a number has.
+fn digit_count(n: u64) -> usize
+    ensures { λ r. ⌜ r ≡ length (decimal n) ⌝ }
+{
+    let tenth = n / 10;
+    let mut power: u64 = 1;
+    let mut count = 1;
+    while power <= tenth {
+        power = power * 10;
+        count += 1;
+    }
+    count
+}
+
+// The digits of a number, each put at its place, the last one first.
 fn put_digits(out: &mut [u8], at: usize, n: u64) -> usize
     requires { ⌜ at + length (decimal n) ≤ length (now out) ⌝ }
     ensures { λ r. ⌜ Put (now (out .entry)) at (decimal n) (now (out .exit)) r ⌝ }
 {
-    if n < 10 {
-        put_byte(out, at, digit_byte(n))
-    } else {
-        let next = put_digits(out, at, n / 10);
-        put_byte(out, next, digit_byte(n % 10))
+    let end = at + digit_count(n);
+    let mut i = end;
+    let mut rest = n;
+    while 10 <= rest {
+        i -= 1;
+        out[i] = digit_byte(rest % 10);
+        rest = rest / 10;
     }
+    out[at] = digit_byte(rest);
+    end
 }
 
 // A tab and a number.
