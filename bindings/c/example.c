@@ -8,7 +8,7 @@
 
 /* Everything that the engine knows: the same slices go to every call. */
 static uint64_t state[PCHELODAR_STATE_NUMBERS];
-static uint32_t queries[PCHELODAR_LIST_NUMBERS];
+static pchelodar_queries queries;
 static uint32_t starts[PCHELODAR_TABLE_PLACES];
 static int64_t sums[PCHELODAR_TABLE_PLACES];
 static uint32_t max_starts[PCHELODAR_TABLE_PLACES];
@@ -22,8 +22,8 @@ static int64_t answers[PCHELODAR_QUERY_LIMIT * PCHELODAR_ANSWER_PLACES];
 /* An array as a call takes it: a pointer and a number of places. */
 #define PLACES(array) array, sizeof(array) / sizeof(array)[0]
 #define SLICES                                                                                                    \
-    PLACES(state), PLACES(queries), PLACES(starts), PLACES(sums), PLACES(max_starts), PLACES(max_values),         \
-        PLACES(min_starts), PLACES(min_values)
+    PLACES(state), (uint32_t *)&queries, PCHELODAR_LIST_NUMBERS, PLACES(starts), PLACES(sums), PLACES(max_starts), \
+        PLACES(max_values), PLACES(min_starts), PLACES(min_values)
 
 /* A line of the session: R registers, D withdraws, V is a reading. */
 struct line {

@@ -7,8 +7,9 @@
  *
  *   slice        places         what stands there
  *   state        18 or more     the counts, the open partial and the rings: the library's own layout
- *   queries      160 or more    32 records of 5 numbers each (struct pchelodar_query): the registered queries first, in
- *                               order of registration; an unused record is all 0
+ *   queries      192 or more    the query list (pchelodar_queries): 32 records of five numbers, the registered queries
+ *                               first, in order of registration, and their places by ascending number; what is unused
+ *                               is 0
  *   starts       4,096 or more  starts of closed partials; as each table, a ring over its first 4,096 places
  *   sums         4,096 or more  sums by laps: at place p the sum of the partials at the places before p, of the same
  *                               lap of the ring; it is not the sum of the partial at p
@@ -17,12 +18,12 @@
  *   min_starts   4,096 or more  starts of the partials that stand for minima
  *   min_values   4,096 or more  their values
  *
- * Only the first 18, 160 and 4,096 places are ever written. A start may be made on any content; no other call may come
+ * Only the first 18, 192 and 4,096 places are ever written. A start may be made on any content; no other call may come
  * first.
  *
  * Every function returns 0 where the call is accepted, and else the number of the refusal (PCHELODAR_..). A refused
- * call changes nothing: no number of the state, no record, no place of a table, no answer place, no number of answers
- * and no total. The checks go in the order of the numbers; the first that applies decides.
+ * call changes nothing: no number of the state or of the query list, no place of a table, no answer place, no number of
+ * answers and no total. The checks go in the order of the numbers; the first that applies decides.
  *
  * What the caller must see to, since nothing can check it: a pointer is not null (also where its number of places is
  * 0), is aligned for its type and has as many places as the call says; the slices of one call do not overlap; no two
@@ -30,11 +31,12 @@
  *
  * Of the content of the slices nothing is asked. Where it did not come from a start by these calls, nothing undefined
  * happens, and nothing is written but the places above, the answers' own, `answered` and `totals`. Every call but start
- * is refused with 2 where more than 32 queries are counted, a used record has a field that register refuses (3 to 6) or
- * an origin above the count of readings, two used records have one number, or a number of the state is outside the
- * width of what it stands for. It is so too, though that is not promised, where numbers of the state are outside their
- * bounds. Other damage may pass: calls are accepted then, and answers may be wrong. So a copy of the slices that is
- * kept, to go on from it later, wants a checksum of the caller's own. */
+ * is refused with 2 where more than 32 queries are counted, a registered query has a field that register refuses (3 to
+ * 6) or an origin above the count of readings, two have one number, `order` does not have the places of the registered
+ * queries by ascending number, or a number of the state is outside the width of what it stands for. It is so too,
+ * though that is not promised, where numbers of the state are outside their bounds. Other damage may pass: calls are
+ * accepted then, and answers may be wrong. So a copy of the slices that is kept, to go on from it later, wants a
+ * checksum of the caller's own. */
 #ifndef PCHELODAR_H
 #define PCHELODAR_H
 
@@ -47,9 +49,8 @@ extern "C" {
 
 /* Places that the slices need. */
 #define PCHELODAR_STATE_NUMBERS 18
-#define PCHELODAR_QUERY_NUMBERS 5
 #define PCHELODAR_QUERY_LIMIT 32
-#define PCHELODAR_LIST_NUMBERS 160
+#define PCHELODAR_LIST_NUMBERS 192
 #define PCHELODAR_TABLE_PLACES 4096
 #define PCHELODAR_ANSWER_PLACES 4
 
@@ -72,18 +73,31 @@ extern "C" {
 #define PCHELODAR_COUNT_EXHAUSTED 10  /* 4,294,967,295 readings were taken */
 #define PCHELODAR_ANSWERS_TOO_SHORT 11 /* fewer than 4 places for each query that is due */
 
-/* One record of the query list: five numbers of it stand at `queries`. An array of 32 records can be lent as
- * (&records[0].number, 160). */
-struct pchelodar_query {
+/* One query of the list. */
+typedef struct {
     uint32_t number;
     uint32_t kind;
     uint32_t range;
     uint32_t slide;
     uint32_t origin; /* the count of readings at which it was registered */
-};
+} pchelodar_query;
 
-/* Start: no reading, no query, totals 0. It writes the state, the 32 records, and 0 to the first 4,096 places of each
- * table.
+/* The query list, lent as it stands: ((uint32_t *)&queries, PCHELODAR_LIST_NUMBERS). The registered queries come first,
+ * in order of registration; a record without a query is all 0, and no query has the number 0. `order` has the places of
+ * the registered queries by ascending number, and then 0. It is kept by the calls and not to be changed by the caller:
+ * where it does not have those places, every call but start is refused with 2. */
+typedef struct {
+    pchelodar_query query[PCHELODAR_QUERY_LIMIT];
+    uint32_t order[PCHELODAR_QUERY_LIMIT];
+} pchelodar_queries;
+#if defined(__cplusplus) && __cplusplus >= 201103L
+static_assert(sizeof(pchelodar_queries) == 4 * PCHELODAR_LIST_NUMBERS, "the query list is 192 numbers");
+#elif defined(__STDC_VERSION__) && __STDC_VERSION__ >= 201112L
+_Static_assert(sizeof(pchelodar_queries) == 4 * PCHELODAR_LIST_NUMBERS, "the query list is 192 numbers");
+#endif
+
+/* Start: no reading, no query, totals 0. It writes the state, and 0 to the 192 numbers of the query list and to the
+ * first 4,096 places of each table.
  * Refused with 1. */
 uint32_t pchelodar_start(
     uint64_t *state, size_t state_places,

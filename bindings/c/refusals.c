@@ -1,7 +1,7 @@
 /* Every refusal, 1 to 11, from every call that can give it: the number that comes back is compared with document 01's
- * and with the name that the header gives it, and a refused call must have changed nothing. What the header says of
- * records, of counts and of what the functions take is asserted when this is compiled. Prints one line, or what failed,
- * with status 1. */
+ * and with the name that the header gives it, and a refused call must have changed nothing. What the header says of the
+ * query list, of counts and of what the functions take is asserted when this is compiled. Prints one line, or what
+ * failed, with status 1. */
 #include <inttypes.h>
 #include <stdio.h>
 #include <stdlib.h>
@@ -9,19 +9,23 @@
 
 #include "pchelodar.h"
 
-/* Document 01, "The board": a record holds number, kind, r, s and g, in this order. */
-_Static_assert(offsetof(struct pchelodar_query, number) == 0, "the first number of a record is the query's number");
-_Static_assert(offsetof(struct pchelodar_query, kind) == 4, "the second is its kind");
-_Static_assert(offsetof(struct pchelodar_query, range) == 8, "the third is its range");
-_Static_assert(offsetof(struct pchelodar_query, slide) == 12, "the fourth is its slide");
-_Static_assert(offsetof(struct pchelodar_query, origin) == 16, "the fifth is its registration point");
-_Static_assert(sizeof(struct pchelodar_query) == 20, "a record is five numbers of 32 bits");
+/* The query list as the library has it: 32 records of the numbers that document 01's record holds ("The board"), in its
+ * order, and then the places by ascending number. */
+#define PLACE(i) ((i) * sizeof(uint32_t))
+_Static_assert(offsetof(pchelodar_query, number) == PLACE(0), "a record's first is the number");
+_Static_assert(offsetof(pchelodar_query, kind) == PLACE(1), "its second is the kind");
+_Static_assert(offsetof(pchelodar_query, range) == PLACE(2), "its third is the range");
+_Static_assert(offsetof(pchelodar_query, slide) == PLACE(3), "its fourth is the slide");
+_Static_assert(offsetof(pchelodar_query, origin) == PLACE(4), "its fifth is the registration point");
+_Static_assert(sizeof(pchelodar_query) == PLACE(5), "there is nothing else in a record");
+_Static_assert(offsetof(pchelodar_queries, query) == PLACE(0), "the records come first");
+_Static_assert(offsetof(pchelodar_queries, order) == PLACE(160), "the places by ascending number come next");
+_Static_assert(sizeof(pchelodar_queries) == PLACE(192), "there is nothing else in the list");
 
 /* Document 01's counts and kinds, and the library's 18 numbers of the state. */
 _Static_assert(PCHELODAR_STATE_NUMBERS == 18, "numbers of the state");
-_Static_assert(PCHELODAR_QUERY_NUMBERS == 5, "numbers of a record");
 _Static_assert(PCHELODAR_QUERY_LIMIT == 32, "queries that are registered together");
-_Static_assert(PCHELODAR_LIST_NUMBERS == 160, "numbers of the query list");
+_Static_assert(PCHELODAR_LIST_NUMBERS == 192, "numbers of the query list");
 _Static_assert(PCHELODAR_TABLE_PLACES == 4096, "places of a table");
 _Static_assert(PCHELODAR_ANSWER_PLACES == 4, "places of an answer");
 _Static_assert(PCHELODAR_SUM == 1 && PCHELODAR_COUNT == 2, "kinds 1 and 2");
@@ -68,7 +72,7 @@ static const int own[CALLS][REFUSALS + 1] = {
 /* Everything that a call is lent, so that it can be compared as a whole. */
 struct board {
     uint64_t state[PCHELODAR_STATE_NUMBERS];
-    struct pchelodar_query queries[PCHELODAR_QUERY_LIMIT];
+    pchelodar_queries queries;
     uint32_t starts[PCHELODAR_TABLE_PLACES];
     int64_t sums[PCHELODAR_TABLE_PLACES];
     uint32_t max_starts[PCHELODAR_TABLE_PLACES];
@@ -86,7 +90,7 @@ enum { N = 0, REGISTERED = 17 };
 
 /* How many places of each slice are lent: the state, the query list and the six tables; and the answer places. */
 enum { SLICES = 8 };
-static const size_t enough[SLICES] = {18, 160, 4096, 4096, 4096, 4096, 4096, 4096};
+static const size_t enough[SLICES] = {18, 192, 4096, 4096, 4096, 4096, 4096, 4096};
 static size_t places[SLICES], answer_places;
 
 /* What a call asks: a query's fields, of which a withdrawal takes the number, or a reading. */
@@ -97,7 +101,7 @@ struct asked {
 static const struct asked query_9 = {.number = 9, .kind = 1, .range = 1, .slide = 1};
 
 #define LENT                                                                                                  \
-    board.state, places[0], &board.queries[0].number, places[1], board.starts, places[2], board.sums,         \
+    board.state, places[0], (uint32_t *)&board.queries, places[1], board.starts, places[2], board.sums,       \
         places[3], board.max_starts, places[4], board.max_values, places[5], board.min_starts, places[6],     \
         board.min_values, places[7]
 
@@ -181,23 +185,28 @@ static void too_short(void)
             }
 }
 
-/* What document 01 lists under 2, one case at a time. */
-enum { DAMAGES = 11 };
+/* What document 01 lists under 2, one case at a time, and places by number that are none: one out of range, one twice,
+ * two exchanged. */
+enum { DAMAGES = 14 };
 static void damage(int which)
 {
-    struct pchelodar_query *second = &board.queries[1];
+    pchelodar_query *query = board.queries.query;
+    uint32_t *order = board.queries.order;
     switch (which) {
     case 0: board.state[REGISTERED] = 33; break;
-    case 1: second->number = 0; break;
-    case 2: second->number = 65536; break;
-    case 3: second->kind = 0; break;
-    case 4: second->kind = 5; break;
-    case 5: second->range = 0; break;
-    case 6: second->range = 4097; break;
-    case 7: second->slide = 0; break;
-    case 8: second->slide = 4097; break;
-    case 9: second->origin = 4; break;
-    default: second->number = board.queries[0].number; break;
+    case 1: query[1].number = 0; break;
+    case 2: query[1].number = 65536; break;
+    case 3: query[1].kind = 0; break;
+    case 4: query[1].kind = 5; break;
+    case 5: query[1].range = 0; break;
+    case 6: query[1].range = 4097; break;
+    case 7: query[1].slide = 0; break;
+    case 8: query[1].slide = 4097; break;
+    case 9: query[1].origin = 4; break;
+    case 10: query[1].number = query[0].number; break;
+    case 11: order[1] = 2; break;
+    case 12: order[1] = order[0]; break;
+    default: order[0] = 1, order[1] = 0; break;
     }
 }
 
@@ -253,6 +262,35 @@ static void listed(void)
     accepted(REGISTER, next);
 }
 
+/* What stands in the list: the queries in order of registration, and their places by ascending number. */
+static void held(uint32_t i, struct asked asked, uint32_t origin, uint32_t place)
+{
+    pchelodar_query query = board.queries.query[i];
+    if (query.number != asked.number || query.kind != asked.kind || query.range != asked.range
+        || query.slide != asked.slide || query.origin != origin || board.queries.order[i] != place)
+        fail(REGISTER, "the list holds another query, or another place", query.number);
+}
+
+static void read_again(void)
+{
+    static const struct asked first = {.number = 30, .kind = 3, .range = 5, .slide = 2};
+    static const struct asked second = {.number = 20, .kind = 4, .range = 6, .slide = 1};
+    static const struct asked none = {.number = 0};
+    fresh();
+    accepted(REGISTER, first);
+    accepted(READING, query_9);
+    accepted(REGISTER, second);
+    accepted(REGISTER, query_9);
+    held(0, first, 0, 2);
+    held(1, second, 1, 1);
+    held(2, query_9, 1, 0);
+    held(3, none, 0, 0);
+    accepted(WITHDRAW, first);
+    held(0, second, 1, 1);
+    held(1, query_9, 1, 0);
+    held(2, none, 0, 0);
+}
+
 /* 10: n is written into the state, since so many readings take long; with no query, and before 11 with one. */
 static void exhausted(void)
 {
@@ -286,6 +324,7 @@ int main(void)
     damaged();
     outside();
     listed();
+    read_again();
     exhausted();
     answers_short();
     int pairs = 0;

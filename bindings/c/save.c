@@ -7,10 +7,10 @@
 
 #include "pchelodar.h"
 
-/* All that an engine knows: 115,472 bytes, without padding. */
+/* All that an engine knows: 115,600 bytes, without padding. */
 struct engine {
     uint64_t state[PCHELODAR_STATE_NUMBERS];
-    uint32_t queries[PCHELODAR_LIST_NUMBERS];
+    pchelodar_queries queries;
     uint32_t starts[PCHELODAR_TABLE_PLACES];
     int64_t sums[PCHELODAR_TABLE_PLACES];
     uint32_t max_starts[PCHELODAR_TABLE_PLACES];
@@ -18,13 +18,13 @@ struct engine {
     uint32_t min_starts[PCHELODAR_TABLE_PLACES];
     int32_t min_values[PCHELODAR_TABLE_PLACES];
 };
-_Static_assert(sizeof(struct engine) == 115472, "there is no padding");
+_Static_assert(sizeof(struct engine) == 115600, "there is no padding");
 
 /* The slices as a call takes them: pchelodar_start(SLICES(e)). */
 #define PLACES(array) array, sizeof(array) / sizeof(array)[0]
 #define SLICES(e)                                                                                                 \
-    PLACES((e)->state), PLACES((e)->queries), PLACES((e)->starts), PLACES((e)->sums), PLACES((e)->max_starts),    \
-        PLACES((e)->max_values), PLACES((e)->min_starts), PLACES((e)->min_values)
+    PLACES((e)->state), (uint32_t *)&(e)->queries, PCHELODAR_LIST_NUMBERS, PLACES((e)->starts), PLACES((e)->sums), \
+        PLACES((e)->max_starts), PLACES((e)->max_values), PLACES((e)->min_starts), PLACES((e)->min_values)
 
 /* FNV-1a; use the checksum that your storage asks for. */
 static uint64_t checksum(const struct engine *e)

@@ -9,7 +9,11 @@ pub const N: usize = 0;
 pub const P: usize = 1;
 /// The state number that is the query count.
 pub const QUERY_COUNT: usize = 17;
+/// The fields of a record of the query list.
 pub const FIELDS: usize = 5;
+/// Counted as a sixth field of a slot: the place by ascending number there. These stand after all records.
+pub const ORDER: usize = FIELDS;
+pub const SLOT_NUMBERS: usize = FIELDS + 1;
 pub const QUERY_LIMIT: usize = 32;
 pub const TABLE_PLACES: usize = 4_096;
 pub const ANSWER_PLACES: usize = 4;
@@ -21,6 +25,15 @@ pub const QUERIES: usize = 1;
 pub const FIRST_TABLE: usize = 2;
 pub const SLICE_NAMES: [&str; SLICES] =
     ["state", "queries", "starts", "sums", "max_starts", "max_values", "min_starts", "min_values"];
+
+/// Where a field of a record, or the place by ascending number of a slot, stands in the query list.
+pub fn list_place(field: usize, slot: usize) -> usize {
+    if field == ORDER {
+        FIELDS * QUERY_LIMIT + slot
+    } else {
+        FIELDS * slot + field
+    }
+}
 
 pub struct Board {
     pub state: Places<u64>,
@@ -42,7 +55,7 @@ impl Board {
     pub fn new(exact: bool) -> Board {
         Board {
             state: Places::new(STATE_NUMBERS, exact),
-            queries: Places::new(FIELDS * QUERY_LIMIT, exact),
+            queries: Places::new(SLOT_NUMBERS * QUERY_LIMIT, exact),
             starts: Places::new(TABLE_PLACES, exact),
             sums: Places::new(TABLE_PLACES, exact),
             max_starts: Places::new(TABLE_PLACES, exact),
@@ -85,8 +98,12 @@ impl Board {
 
     /// The record of a place in the query list.
     pub fn record(&self, slot: usize) -> [u32; FIELDS] {
-        let from = FIELDS * slot;
-        self.queries.values()[from..from + FIELDS].try_into().expect("five numbers")
+        std::array::from_fn(|field| self.queries.values()[list_place(field, slot)])
+    }
+
+    /// The places by ascending number.
+    pub fn order(&self) -> &[u32] {
+        &self.queries.values()[list_place(ORDER, 0)..]
     }
 
     /// Whether guards and places beyond those that a call may write hold their pattern; the answers' own apart.

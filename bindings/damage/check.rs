@@ -84,7 +84,11 @@ pub fn agrees(call: Call, number: u32, outcome: &Outcome, board: &Board, referen
     let counts = state.get(N) == reference.n() as u64 && state.get(QUERY_COUNT) == records.len() as u64;
     holds(counts, "n or the query count is not the reference's")?;
     let record = |slot: usize| records.get(slot).copied().unwrap_or_default();
-    holds((0..QUERY_LIMIT).all(|slot| board.record(slot) == record(slot)), "the query list is not the reference's")
+    holds((0..QUERY_LIMIT).all(|slot| board.record(slot) == record(slot)), "the query list is not the reference's")?;
+    let mut order: Vec<u32> = (0..records.len() as u32).collect();
+    order.sort_by_key(|&place| records[place as usize][0]);
+    order.resize(QUERY_LIMIT, 0);
+    holds(board.order() == order, "the places by ascending number are others")
 }
 
 fn answers(outcome: &Outcome, board: &Board) -> Checked {

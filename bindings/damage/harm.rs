@@ -1,6 +1,7 @@
-//! Damage at a site: one number altered, or a stretch of a table.
+//! Damage at a site: one number altered, two exchanged, or a stretch of a table.
 
-use crate::board::{Board, FIELDS, N, P, QUERY_COUNT, QUERY_LIMIT, STATE, STATE_NUMBERS, TABLE_PLACES};
+use crate::board::{list_place, Board, N, ORDER, P, QUERY_COUNT, QUERY_LIMIT, SLOT_NUMBERS};
+use crate::board::{STATE, STATE_NUMBERS, TABLE_PLACES};
 use crate::judge::used;
 use crate::random::Random;
 use crate::site::{Damage, How, Site, HOWS, TABLES};
@@ -29,7 +30,7 @@ impl Sites {
     fn record(&self, random: &mut Random, board: &Board) -> Site {
         let count = used(board);
         let slot = if count > 0 && random.one_in(2) { random.below(count) } else { random.below(QUERY_LIMIT) };
-        Site::Record { slot, field: random.below(FIELDS), used: slot < count }
+        Site::Record { slot, field: random.below(SLOT_NUMBERS), used: slot < count }
     }
 
     /// The next place of a table, or one at which its ring has an entry.
@@ -64,6 +65,7 @@ pub fn damage(random: &mut Random, board: &mut Board, site: Site, how: How) -> D
             fill(random, board, slice, place..end);
         }
         How::Whole => fill(random, board, slice, 0..TABLE_PLACES),
+        How::Swap => swap(random, board, site),
         _ => alter(random, board, site, how),
     }
     let after = board.slice(slice).get(place);
@@ -86,6 +88,16 @@ fn fill(random: &mut Random, board: &mut Board, slice: usize, places: std::ops::
     }
 }
 
+/// Exchanges a number with that of another place. Where the two are equal, nothing is damaged.
+fn swap(random: &mut Random, board: &mut Board, site: Site) {
+    let (slice, place) = site.place();
+    let other = another(random, board, site);
+    let numbers = board.slice_mut(slice);
+    let (first, second) = (numbers.get(place), numbers.get(other));
+    numbers.put(place, second);
+    numbers.put(other, first);
+}
+
 /// Alters one number; it is another one after that.
 fn alter(random: &mut Random, board: &mut Board, site: Site, how: How) {
     let (slice, place) = site.place();
@@ -97,7 +109,7 @@ fn alter(random: &mut Random, board: &mut Board, site: Site, how: How) {
         How::Bit => before ^ (1 << random.below(bits as usize)),
         How::Huge => random.pick(if bits == 32 { &HUGE_32 } else { &HUGE_64 }),
         How::Small => random.below(5_000) as u64,
-        How::Copy => copied(random, board, site),
+        How::Copy => board.slice(slice).get(another(random, board, site)),
         How::Edge => edge(random, board, site),
         _ => random.next(),
     };
@@ -112,15 +124,13 @@ const HUGE_32: [u64; 6] = [(1 << 32) - 1, (1 << 32) - 2, 1 << 31, (1 << 31) - 1,
 const HUGE_64: [u64; 8] =
     [u64::MAX, u64::MAX - 1, 1 << 63, (1 << 63) - 1, (1 << 63) + 1, 1 << 60, 1 << 32, 0x7FFF_FFFF_8000_0000];
 
-/// The number of another place: another number of the state, the same field of another record, the same table.
-fn copied(random: &mut Random, board: &Board, site: Site) -> u64 {
-    let (slice, _) = site.place();
-    let place = match site {
+/// Another place of the slice: any of the state, the same field of a used record, any of the same table.
+fn another(random: &mut Random, board: &Board, site: Site) -> usize {
+    match site {
         Site::State { .. } => random.below(STATE_NUMBERS),
-        Site::Record { field, .. } => FIELDS * random.below(used(board).max(1)) + field,
+        Site::Record { field, .. } => list_place(field, random.below(used(board).max(1))),
         Site::Table { .. } => random.below(TABLE_PLACES),
-    };
-    board.slice(slice).get(place)
+    }
 }
 
 /// A number at a limit of what stands there, or just outside.
@@ -134,6 +144,7 @@ fn edge(random: &mut Random, board: &Board, site: Site) -> u64 {
         Site::Record { field: 0, .. } => random.pick(&[0, 65_535, 65_536]),
         Site::Record { field: 1, .. } => random.pick(&[0, 1, 2, 3, 4, 5]),
         Site::Record { field: 4, .. } => random.pick(&[0, n, n.wrapping_add(1)]),
+        Site::Record { field: ORDER, .. } => random.pick(&[0, used(board) as u64, 31, 32, 160]),
         Site::Record { .. } => random.pick(&[0, 1, 4_096, 4_097]),
         Site::Table { .. } => random.pick(&[0, n, n.wrapping_add(1), 1 << 31, (1 << 31) - 1, 1 << 59, u64::MAX]),
     }

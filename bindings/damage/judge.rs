@@ -1,10 +1,12 @@
-//! What document 01 says of a lent board, whatever it holds: check 1, and the cases in which 2 is always given.
+//! What document 01 says of a lent board, whatever it holds: check 1, and the cases in which 2 is always given; and
+//! those that the library adds, of the places by ascending number.
 
 use crate::board::{Board, N, QUERY_COUNT, QUERY_LIMIT, SLICES, STATE};
 
 /// "Number 2 is always given where the query count is above 32, a used record breaks 3 to 6 or has g above n, or two
-/// used records share a number."
-pub const CASES: [&str; 11] = [
+/// used records share a number." So it is where the places by ascending number are not those of the used records, or
+/// the numbers descend along them.
+pub const CASES: [&str; 14] = [
     "query count above 32",
     "query number 0",
     "query number above 65,535",
@@ -16,7 +18,13 @@ pub const CASES: [&str; 11] = [
     "slide above 4,096",
     "g above n",
     "number shared by two",
+    "place of no used record",
+    "place that stands twice",
+    "numbers that descend",
 ];
+
+/// Where the cases of the places by ascending number begin.
+const ORDER_CASES: usize = 11;
 
 /// Which of the cases hold.
 pub type Listed = [bool; CASES.len()];
@@ -38,7 +46,18 @@ pub fn listed(board: &Board) -> Listed {
     for slot in 0..count as usize {
         note_record(board, slot, n, &mut found);
     }
+    note_order(board, count as usize, &mut found);
     found
+}
+
+/// The cases that hold of the places of so many used records. Numbers descend only along places that are all there.
+fn note_order(board: &Board, count: usize, found: &mut Listed) {
+    let order = &board.order()[..count];
+    let outside = order.iter().any(|&place| place as usize >= count);
+    let twice = (0..count).any(|later| order[..later].contains(&order[later]));
+    let number = |place: u32| board.record(place as usize)[0];
+    let descend = !outside && !twice && order.windows(2).any(|pair| number(pair[0]) > number(pair[1]));
+    found[ORDER_CASES..].copy_from_slice(&[outside, twice, descend]);
 }
 
 /// The cases that hold of one used record.

@@ -16,7 +16,7 @@ pub fn every_short() -> Vec<Short> {
     let lengths = |slice: usize| -> &[usize] {
         match slice {
             STATE => &[0, 17],
-            QUERIES => &[0, 155, 156, 157, 158, 159],
+            QUERIES => &[0, 32, 159, 160, 161, 190, 191],
             _ => &[0, 4_095],
         }
     };

@@ -23,6 +23,7 @@ pub fn print(tally: &Tally) {
         "  {damaged} on boards damaged {boards} times ({} with a slice too short), where readings wrote {} answers",
         tally.damaged_short, tally.damaged_answers
     );
+    println!("  {} times two equal numbers were exchanged, and the call came to what it would have", tally.undamaged);
     print_calls(tally);
     print_sites(tally);
     print_cases(tally);
@@ -90,7 +91,7 @@ fn print_lengths(tally: &Tally) {
 
 fn print_coverage(tally: &Tally) {
     let (fields, places) = missing(tally);
-    println!("fields of records damaged: {} of 320, used and unused", 320 - fields.len());
+    println!("fields of records damaged: {} of 384, used and unused", 384 - fields.len());
     println!("places of tables damaged by themselves: {} of 24576", 24_576 - places.len());
 }
 
@@ -141,6 +142,7 @@ fn damages(tally: &Tally) -> Vec<(u64, String)> {
         counted.extend(hows.map(|((_, name), &count)| (count, format!("{}: {name}", row_name(site)))));
     }
     counted.extend((0..ROWS).map(|row| (tally.boards[row], format!("alone damaged: {}", label(row)))));
+    counted.push((tally.undamaged, "two equal numbers exchanged".to_string()));
     counted
 }
 

@@ -166,9 +166,16 @@ impl<'a> Run<'a> {
     }
 
     /// Damage is done, some calls are made on it, and it is undone; after a start on it the run may go on from there.
+    /// Where two equal numbers were exchanged, nothing is damaged, and the next call comes to what it would have.
     fn episode(&mut self) -> Checked {
         self.clean.copy_from(&self.board);
         self.harm();
+        if self.board.same(&self.clean) {
+            self.damages.clear();
+            self.tally.undamaged += 1;
+            let call = self.profile.call(&mut self.random);
+            return self.clean_call(call);
+        }
         let mut started = false;
         for _ in 0..self.random.between(1, 6) {
             if !started {

@@ -1,10 +1,10 @@
 //! Where a board is damaged, and how.
 
-use crate::board::{FIELDS, FIRST_TABLE, QUERIES, SLICE_NAMES, STATE, STATE_NUMBERS};
+use crate::board::{list_place, FIRST_TABLE, QUERIES, SLICE_NAMES, SLOT_NUMBERS, STATE, STATE_NUMBERS};
 use std::fmt;
 
 pub const TABLES: usize = 6;
-pub const FIELD_NAMES: [&str; FIELDS] = ["number", "kind", "range", "slide", "g"];
+pub const FIELD_NAMES: [&str; SLOT_NUMBERS] = ["number", "kind", "range", "slide", "g", "order"];
 pub const STATE_NAMES: [&str; STATE_NUMBERS] = [
     "n",
     "P",
@@ -45,13 +45,15 @@ pub enum How {
     Copy,
     /// To a limit of what stands there, or just outside.
     Edge,
+    /// Exchanged with the number of another place.
+    Swap,
     /// A stretch of a table.
     Run,
     /// The whole table.
     Whole,
 }
 
-pub const HOWS: [(How, &str); 10] = [
+pub const HOWS: [(How, &str); 11] = [
     (How::Word, "word"),
     (How::Up, "+1"),
     (How::Down, "-1"),
@@ -60,6 +62,7 @@ pub const HOWS: [(How, &str); 10] = [
     (How::Small, "small"),
     (How::Copy, "copy"),
     (How::Edge, "edge"),
+    (How::Swap, "swap"),
     (How::Run, "run"),
     (How::Whole, "whole"),
 ];
@@ -71,7 +74,7 @@ impl How {
     }
 }
 
-/// Where a number is altered.
+/// Where a number is altered. The sixth field of a record is the place by ascending number at its slot.
 #[derive(Clone, Copy, Debug, PartialEq)]
 pub enum Site {
     State { number: usize },
@@ -80,7 +83,7 @@ pub enum Site {
 }
 
 /// The sites by kind: 18 numbers of the state, the fields of used records and of unused ones, six tables.
-pub const SITES: usize = STATE_NUMBERS + 2 * FIELDS + TABLES;
+pub const SITES: usize = STATE_NUMBERS + 2 * SLOT_NUMBERS + TABLES;
 
 impl Site {
     /// The row of its kind.
@@ -88,8 +91,8 @@ impl Site {
         match self {
             Site::State { number } => number,
             Site::Record { field, used: true, .. } => STATE_NUMBERS + field,
-            Site::Record { field, .. } => STATE_NUMBERS + FIELDS + field,
-            Site::Table { table, .. } => STATE_NUMBERS + 2 * FIELDS + table,
+            Site::Record { field, .. } => STATE_NUMBERS + SLOT_NUMBERS + field,
+            Site::Table { table, .. } => STATE_NUMBERS + 2 * SLOT_NUMBERS + table,
         }
     }
 
@@ -97,7 +100,7 @@ impl Site {
     pub fn place(self) -> (usize, usize) {
         match self {
             Site::State { number } => (STATE, number),
-            Site::Record { slot, field, .. } => (QUERIES, FIELDS * slot + field),
+            Site::Record { slot, field, .. } => (QUERIES, list_place(field, slot)),
             Site::Table { table, place } => (FIRST_TABLE + table, place),
         }
     }
@@ -105,11 +108,11 @@ impl Site {
 
 /// The name of a site's row.
 pub fn row_name(row: usize) -> String {
-    let (records, tables) = (STATE_NUMBERS, STATE_NUMBERS + 2 * FIELDS);
+    let (records, tables) = (STATE_NUMBERS, STATE_NUMBERS + 2 * SLOT_NUMBERS);
     if row < records {
         format!("state {row} {}", STATE_NAMES[row])
     } else if row < tables {
-        let (unused, field) = ((row - records) / FIELDS, (row - records) % FIELDS);
+        let (unused, field) = ((row - records) / SLOT_NUMBERS, (row - records) % SLOT_NUMBERS);
         format!("{} record {}", ["used", "unused"][unused], FIELD_NAMES[field])
     } else {
         format!("table {}", SLICE_NAMES[FIRST_TABLE + row - tables])
@@ -119,7 +122,7 @@ pub fn row_name(row: usize) -> String {
 /// What was done to a board.
 #[derive(Clone, Copy, Debug)]
 pub enum Damage {
-    /// One number, or a stretch of a table that begins there.
+    /// One number, two that were exchanged, or a stretch of a table that begins there.
     At { site: Site, how: How, before: u64, after: u64 },
     /// Every place of everything, with any number.
     Arbitrary,

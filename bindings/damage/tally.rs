@@ -1,6 +1,6 @@
 //! Counts: what was damaged, what was lent, and what the calls returned.
 
-use crate::board::{FIELDS, QUERY_LIMIT, TABLE_PLACES};
+use crate::board::{QUERY_LIMIT, SLOT_NUMBERS, TABLE_PLACES};
 use crate::call::{Call, CALL_NAMES};
 use crate::judge::{Listed, CASES};
 use crate::lengths::{every_short, Answers, Short, ANSWERS};
@@ -22,6 +22,8 @@ pub struct Tally {
     /// Calls on what came from a start, and those with slices longer than they need.
     pub clean: u64,
     pub longer: u64,
+    /// Times that nothing was damaged, two equal numbers having been exchanged.
+    pub undamaged: u64,
     /// Damages at a site, by how.
     pub hows: [[u64; HOWS.len()]; SITES],
     /// Times that a board was damaged, by what was.
@@ -40,7 +42,7 @@ pub struct Tally {
     /// Readings on what came from a start, by the length of the answer table.
     pub answers: [ByNumber; ANSWERS.len()],
     /// Fields of records that were damaged, unused and used, and places of tables.
-    pub fields: [[[bool; 2]; FIELDS]; QUERY_LIMIT],
+    pub fields: [[[bool; 2]; SLOT_NUMBERS]; QUERY_LIMIT],
     pub places: Vec<[bool; TABLES]>,
 }
 
@@ -51,6 +53,7 @@ impl Tally {
             calls: [[0; 12]; CALL_NAMES.len()],
             clean: 0,
             longer: 0,
+            undamaged: 0,
             hows: [[0; HOWS.len()]; SITES],
             boards: [0; ROWS],
             damaged: [[0; 12]; ROWS],
@@ -60,7 +63,7 @@ impl Tally {
             cases_alone: [0; CASES.len()],
             shorts: every_short().into_iter().map(|short| (short, [0; 2])).collect(),
             answers: [[0; 12]; ANSWERS.len()],
-            fields: [[[false; 2]; FIELDS]; QUERY_LIMIT],
+            fields: [[[false; 2]; SLOT_NUMBERS]; QUERY_LIMIT],
             places: vec![[false; TABLES]; TABLE_PLACES],
         }
     }
@@ -89,9 +92,11 @@ impl Tally {
     pub fn damage(&mut self, damages: &[Damage]) {
         self.boards[row(damages)] += 1;
         for damage in damages {
-            if let Damage::At { site, how, .. } = *damage {
+            if let Damage::At { site, how, before, after } = *damage {
                 self.hows[site.row()][how as usize] += 1;
-                self.mark(site, how);
+                if before != after {
+                    self.mark(site, how);
+                }
             }
         }
     }

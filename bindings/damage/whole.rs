@@ -1,6 +1,6 @@
 //! Damage of a whole board.
 
-use crate::board::{Board, FIELDS, QUERIES, QUERY_COUNT, QUERY_LIMIT, SLICES, STATE_NUMBERS};
+use crate::board::{list_place, Board, QUERIES, QUERY_COUNT, QUERY_LIMIT, SLICES, STATE_NUMBERS};
 use crate::random::Random;
 use crate::site::Damage;
 
@@ -43,7 +43,8 @@ pub fn make_plausible(random: &mut Random, board: &mut Board) -> Damage {
     Damage::Plausible
 }
 
-/// A record within its limits: the slot's own number, and a registration point at most n.
+/// A record within its limits: the slot's own number, a registration point at most n, and, since the numbers ascend,
+/// the slot itself as its place by number.
 fn plausible_record(random: &mut Random, board: &mut Board, slot: usize, n: u64) {
     let longest = random.pick(&[2, 9, 4_096]);
     let record = [
@@ -52,8 +53,9 @@ fn plausible_record(random: &mut Random, board: &mut Board, slot: usize, n: u64)
         random.word(longest) + 1,
         random.word(longest) + 1,
         n - random.word(n.min(20) + 1),
+        slot as u64,
     ];
     for (field, bits) in record.into_iter().enumerate() {
-        board.slice_mut(QUERIES).put(FIELDS * slot + field, bits);
+        board.slice_mut(QUERIES).put(list_place(field, slot), bits);
     }
 }

@@ -14,8 +14,10 @@ use std::fmt;
 
 /// How many numbers a state is written as.
 pub const STATE_NUMBERS: usize = 18;
-/// How many queries may be registered together, and how many records the query list needs.
+/// How many queries may be registered together.
 pub const QUERY_LIMIT: usize = 32;
+/// How many numbers the query list needs: five for each record, and the places by ascending number.
+pub const LIST_NUMBERS: usize = 6 * QUERY_LIMIT;
 /// How many places each of the six tables of the board needs.
 pub const TABLE_PLACES: usize = 4_096;
 
@@ -232,7 +234,7 @@ impl fmt::Display for Refusal {
 
 impl Error for Refusal {}
 
-/// One record of the query list. An unused record is all 0.
+/// One query, as its record of the list.
 #[derive(Clone, Copy, Debug, Default, PartialEq, Eq, Hash)]
 #[repr(C)]
 pub struct Query {
@@ -246,6 +248,68 @@ pub struct Query {
     pub slide: u32,
     /// The registration point g: the count of readings at which it was registered.
     pub origin: u32,
+}
+
+/// The query list, as it is lent. The registered queries come first, in order of registration; a record without a query
+/// is all 0, and no query has the number 0.
+#[derive(Clone, Copy, Debug, PartialEq, Eq, Hash)]
+#[repr(C)]
+pub struct Queries {
+    /// The records.
+    pub query: [Query; QUERY_LIMIT],
+    /// The places of the registered queries by ascending number, and then 0. It is kept by the calls and not to be
+    /// changed by the caller: where it does not have those places, every call but a start is refused with 2.
+    pub order: [u32; QUERY_LIMIT],
+}
+
+// records and places without padding, so that they can be lent as one slice
+const _: () = assert!(size_of::<Queries>() == size_of::<[u32; LIST_NUMBERS]>());
+const _: () = assert!(align_of::<Queries>() == align_of::<u32>());
+
+impl Queries {
+    /// A list without a query.
+    #[must_use]
+    pub const fn new() -> Queries {
+        let none = Query { number: 0, kind: 0, range: 0, slide: 0, origin: 0 };
+        Queries { query: [none; QUERY_LIMIT], order: [0; QUERY_LIMIT] }
+    }
+
+    /// How many queries are registered.
+    #[must_use]
+    pub fn registered(&self) -> usize {
+        self.query.iter().take_while(|query| query.number != 0).count()
+    }
+
+    /// Query i, in order of registration; none where fewer are registered.
+    #[must_use]
+    pub fn query(&self, i: usize) -> Option<Query> {
+        self.queries().nth(i)
+    }
+
+    /// The registered queries, in order of registration, each read in place.
+    pub fn queries(&self) -> impl ExactSizeIterator<Item = Query> + '_ {
+        self.query[..self.registered()].iter().copied()
+    }
+
+    /// All numbers of it, as they are lent: five of each record, and the places.
+    #[must_use]
+    pub fn numbers(&self) -> &[u32; LIST_NUMBERS] {
+        // SAFETY: 32 records of five numbers and 32 places, in this order, without padding, as is asserted above.
+        unsafe { &*(&raw const *self).cast::<[u32; LIST_NUMBERS]>() }
+    }
+
+    /// The same, to be written.
+    #[must_use]
+    pub fn numbers_mut(&mut self) -> &mut [u32; LIST_NUMBERS] {
+        // SAFETY: as at `numbers`; every content is a list.
+        unsafe { &mut *(&raw mut *self).cast::<[u32; LIST_NUMBERS]>() }
+    }
+}
+
+impl Default for Queries {
+    fn default() -> Queries {
+        Queries::new()
+    }
 }
 
 /// One answer, as it stands in its four answer places.
@@ -280,7 +344,7 @@ pub struct Totals {
 /// A start may be made on any content, and no other call may come first. What did not come from a start by these calls
 /// is refused with 2 in the cases that the specification lists. Other damage may pass: nothing undefined happens then
 /// and nothing outside is written, but an accepted answer may be wrong, so a saved engine wants a checksum. Only the
-/// first [`STATE_NUMBERS`], [`QUERY_LIMIT`] and [`TABLE_PLACES`] places are ever written. Where one of the slices has
+/// first [`STATE_NUMBERS`], [`LIST_NUMBERS`] and [`TABLE_PLACES`] places are ever written. Where one of the slices has
 /// fewer places, every call is refused with 1.
 ///
 /// The checks go in the order of the numbers; the first that applies decides. A refused call changes nothing: no place
@@ -289,8 +353,8 @@ pub struct Totals {
 pub struct Lent<'a> {
     /// The counts, the open partial and the rings, in the library's own layout.
     pub state: &'a mut [u64],
-    /// The registered queries first, in order of registration; the other records are all 0.
-    pub queries: &'a mut [Query],
+    /// The query list: [`Queries::numbers_mut`], or any slice that is laid out so.
+    pub queries: &'a mut [u32],
     /// Starts of closed partials.
     pub starts: &'a mut [u32],
     /// Sums by laps: at place p the sum of the partials at the places before p of the same lap of the ring. It is not
@@ -307,12 +371,11 @@ pub struct Lent<'a> {
 }
 
 // Calls a function of the library with the eight slices, each as a pointer and a number of places, and what else it
-// takes. A record is five numbers without padding, so the places of the query list are five times its records; a slice
-// has at most `isize::MAX` bytes, so that product does not wrap.
+// takes.
 macro_rules! call {
     ($function:ident, $lent:expr $(, $more:expr)*) => {{
         let state: *mut [u64] = $lent.state;
-        let queries: *mut [Query] = $lent.queries;
+        let queries: *mut [u32] = $lent.queries;
         let starts: *mut [u32] = $lent.starts;
         let sums: *mut [i64] = $lent.sums;
         let max_starts: *mut [u32] = $lent.max_starts;
@@ -323,7 +386,7 @@ macro_rules! call {
             state.cast::<u64>(),
             state.len(),
             queries.cast::<u32>(),
-            5 * queries.len(),
+            queries.len(),
             starts.cast::<u32>(),
             starts.len(),
             sums.cast::<i64>(),
@@ -342,8 +405,8 @@ macro_rules! call {
 }
 
 impl Lent<'_> {
-    /// Start: no reading, no query, totals 0. It writes the state, the 32 records, and 0 to the first 4,096 places of
-    /// each table, whatever they held.
+    /// Start: no reading, no query, totals 0. It writes the state, and 0 to the numbers of the query list and to the
+    /// first 4,096 places of each table, whatever they held.
     ///
     /// # Errors
     ///
@@ -414,7 +477,7 @@ impl Lent<'_> {
 /// The eight slices where they are only read.
 struct Seen<'a> {
     state: &'a [u64],
-    queries: &'a [Query],
+    queries: &'a [u32],
     starts: &'a [u32],
     sums: &'a [i64],
     max_starts: &'a [u32],
@@ -431,8 +494,8 @@ impl Seen<'_> {
             raw::pchelodar_totals(
                 self.state.as_ptr(),
                 self.state.len(),
-                self.queries.as_ptr().cast::<u32>(),
-                5 * self.queries.len(),
+                self.queries.as_ptr(),
+                self.queries.len(),
                 self.starts.as_ptr(),
                 self.starts.len(),
                 self.sums.as_ptr(),
@@ -462,7 +525,7 @@ fn outcome(number: u32) -> Result<(), Refusal> {
     Err(Refusal::from_number(number).expect("the library returns 0 or a number of its refusals"))
 }
 
-/// An engine that owns its slices and its answer places, in one box of some 116,000 bytes, which [`Engine::new`]
+/// An engine that owns its slices and its answer places, in one box of some 117,000 bytes, which [`Engine::new`]
 /// allocates; no call allocates. What it holds always came from a start, so no call is refused with 1 or 2.
 #[derive(Clone)]
 pub struct Engine {
@@ -473,7 +536,7 @@ pub struct Engine {
 #[derive(Clone)]
 struct Held {
     state: [u64; STATE_NUMBERS],
-    queries: [Query; QUERY_LIMIT],
+    queries: Queries,
     starts: [u32; TABLE_PLACES],
     sums: [i64; TABLE_PLACES],
     max_starts: [u32; TABLE_PLACES],
@@ -492,7 +555,7 @@ impl Engine {
     pub fn new() -> Engine {
         let held = Box::new(Held {
             state: [0; STATE_NUMBERS],
-            queries: [Query::default(); QUERY_LIMIT],
+            queries: Queries::new(),
             starts: [0; TABLE_PLACES],
             sums: [0; TABLE_PLACES],
             max_starts: [0; TABLE_PLACES],
@@ -545,7 +608,7 @@ impl Engine {
         let held = &*self.held;
         let seen = Seen {
             state: &held.state,
-            queries: &held.queries,
+            queries: held.queries.numbers(),
             starts: &held.starts,
             sums: &held.sums,
             max_starts: &held.max_starts,
@@ -556,12 +619,15 @@ impl Engine {
         seen.totals().expect(FROM_A_START)
     }
 
-    /// The registered queries, in order of registration. No query has the number 0, and unused records come last.
+    /// Query i, in order of registration; none where fewer are registered.
     #[must_use]
-    pub fn queries(&self) -> &[Query] {
-        let records = &self.held.queries;
-        let used = records.iter().take_while(|record| record.number != 0).count();
-        &records[..used]
+    pub fn query(&self, i: usize) -> Option<Query> {
+        self.held.queries.query(i)
+    }
+
+    /// The registered queries, in order of registration, each read in place.
+    pub fn queries(&self) -> impl ExactSizeIterator<Item = Query> + '_ {
+        self.held.queries.queries()
     }
 
     /// The slices as a call takes them, and the answer places.
@@ -569,7 +635,7 @@ impl Engine {
         let held = &mut *self.held;
         let lent = Lent {
             state: &mut held.state,
-            queries: &mut held.queries,
+            queries: held.queries.numbers_mut(),
             starts: &mut held.starts,
             sums: &mut held.sums,
             max_starts: &mut held.max_starts,
@@ -589,6 +655,7 @@ impl Default for Engine {
 
 impl fmt::Debug for Engine {
     fn fmt(&self, f: &mut fmt::Formatter<'_>) -> fmt::Result {
-        f.debug_struct("Engine").field("queries", &self.queries()).field("totals", &self.totals()).finish()
+        let queries: Vec<Query> = self.queries().collect();
+        f.debug_struct("Engine").field("queries", &queries).field("totals", &self.totals()).finish()
     }
 }

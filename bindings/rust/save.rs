@@ -4,19 +4,17 @@
 //! `save FILE` saves an engine between two calls, restores it into other slices, and lets both go on: they have to give
 //! the same answers and to leave the same slices. A copy with one byte changed is not restored.
 
-use pchelodar::{Answer, Lent, Query, MAXIMUM, MINIMUM, QUERY_LIMIT, STATE_NUMBERS, SUM, TABLE_PLACES};
+use pchelodar::{Answer, Lent, Queries, MAXIMUM, MINIMUM, SUM};
+use pchelodar::{LIST_NUMBERS, QUERY_LIMIT, STATE_NUMBERS, TABLE_PLACES};
 
-/// Bytes of an engine: 18 numbers of 64 bits, 160 of 32, and six tables, one of 64 bits and five of 32.
-const SAVED: usize = 115_472;
+/// Bytes of an engine: 18 numbers of 64 bits, 192 of 32, and six tables, one of 64 bits and five of 32.
+const SAVED: usize = 115_600;
 
 /// Between two calls: every number in little-endian bytes, and a checksum.
 fn save(lent: &Lent) -> Vec<u8> {
     let mut b = Vec::new();
     lent.state[..STATE_NUMBERS].iter().for_each(|x| b.extend(x.to_le_bytes()));
-    for q in &lent.queries[..QUERY_LIMIT] {
-        let numbers = [q.number, q.kind, q.range, q.slide, q.origin];
-        numbers.iter().for_each(|x| b.extend(x.to_le_bytes()));
-    }
+    lent.queries[..LIST_NUMBERS].iter().for_each(|x| b.extend(x.to_le_bytes()));
     lent.starts[..TABLE_PLACES].iter().for_each(|x| b.extend(x.to_le_bytes()));
     lent.sums[..TABLE_PLACES].iter().for_each(|x| b.extend(x.to_le_bytes()));
     lent.max_starts[..TABLE_PLACES].iter().for_each(|x| b.extend(x.to_le_bytes()));
@@ -34,10 +32,7 @@ fn restore(lent: &mut Lent, saved: &[u8]) -> bool {
         return false;
     }
     lent.state[..STATE_NUMBERS].fill_with(|| u64::from_le_bytes(next(&mut b)));
-    for q in &mut lent.queries[..QUERY_LIMIT] {
-        let [number, kind, range, slide, origin] = [(); 5].map(|()| u32::from_le_bytes(next(&mut b)));
-        *q = Query { number, kind, range, slide, origin };
-    }
+    lent.queries[..LIST_NUMBERS].fill_with(|| u32::from_le_bytes(next(&mut b)));
     lent.starts[..TABLE_PLACES].fill_with(|| u32::from_le_bytes(next(&mut b)));
     lent.sums[..TABLE_PLACES].fill_with(|| i64::from_le_bytes(next(&mut b)));
     lent.max_starts[..TABLE_PLACES].fill_with(|| u32::from_le_bytes(next(&mut b)));
@@ -65,7 +60,7 @@ fn checksum(bytes: &[u8]) -> u64 {
 /// Slices that an engine is lent.
 struct Slices {
     state: Vec<u64>,
-    queries: Vec<Query>,
+    queries: Queries,
     counts: [Vec<u32>; 3],
     sums: Vec<i64>,
     values: [Vec<i32>; 2],
@@ -75,7 +70,7 @@ impl Slices {
     fn new() -> Slices {
         Slices {
             state: vec![0; STATE_NUMBERS],
-            queries: vec![Query::default(); QUERY_LIMIT],
+            queries: Queries::new(),
             counts: [(); 3].map(|()| vec![0; TABLE_PLACES]),
             sums: vec![0; TABLE_PLACES],
             values: [(); 2].map(|()| vec![0; TABLE_PLACES]),
@@ -85,7 +80,7 @@ impl Slices {
     fn lent(&mut self) -> Lent<'_> {
         let [starts, max_starts, min_starts] = &mut self.counts;
         let [max_values, min_values] = &mut self.values;
-        let (state, queries, sums) = (&mut self.state, &mut self.queries, &mut self.sums);
+        let (state, queries, sums) = (&mut self.state, self.queries.numbers_mut(), &mut self.sums);
         Lent { state, queries, starts, sums, max_starts, max_values, min_starts, min_values }
     }
 }

@@ -1,7 +1,7 @@
 //! Tests of the wrapper: every refusal comes through as its case, slices of any length are safe, and both layers agree.
 
-use pchelodar::{Answer, Engine, Lent, Query, Refusal, Totals, MAXIMUM, MINIMUM, SUM};
-use pchelodar::{QUERY_LIMIT, STATE_NUMBERS, TABLE_PLACES};
+use pchelodar::{Answer, Engine, Lent, Queries, Query, Refusal, Totals, MAXIMUM, MINIMUM, SUM};
+use pchelodar::{LIST_NUMBERS, QUERY_LIMIT, STATE_NUMBERS, TABLE_PLACES};
 
 const FILLER: u32 = 77;
 const ANSWER_FILLER: Answer = Answer { number: -7, kind: -7, count: -7, value: -7 };
@@ -10,7 +10,7 @@ const ANSWER_FILLER: Answer = Answer { number: -7, kind: -7, count: -7, value: -
 #[derive(Clone, Debug, PartialEq)]
 struct Slices {
     state: Vec<u64>,
-    queries: Vec<Query>,
+    queries: Vec<u32>,
     unsigned: [Vec<u32>; 3],
     sums: Vec<i64>,
     signed: [Vec<i32>; 2],
@@ -20,10 +20,9 @@ impl Slices {
     /// Slices with so many places more than they need, or fewer.
     fn with(more: isize) -> Slices {
         let places = |needed: usize| needed.checked_add_signed(more).unwrap();
-        let filler = Query { number: FILLER, ..Query::default() };
         Slices {
             state: vec![u64::from(FILLER); places(STATE_NUMBERS)],
-            queries: vec![filler; places(QUERY_LIMIT)],
+            queries: vec![FILLER; places(LIST_NUMBERS)],
             unsigned: [(); 3].map(|()| vec![FILLER; places(TABLE_PLACES)]),
             sums: vec![i64::from(FILLER); places(TABLE_PLACES)],
             signed: [(); 2].map(|()| vec![FILLER as i32; places(TABLE_PLACES)]),
@@ -59,7 +58,7 @@ impl Slices {
     /// Whether the places beyond those that a call may write hold what they were filled with.
     fn beyond_untouched(&self) -> bool {
         self.state[STATE_NUMBERS..].iter().all(|&word| word == u64::from(FILLER))
-            && self.queries[QUERY_LIMIT..].iter().all(|record| record.number == FILLER)
+            && self.queries[LIST_NUMBERS..].iter().all(|&number| number == FILLER)
             && self.unsigned.iter().all(|table| table[TABLE_PLACES..].iter().all(|&start| start == FILLER))
             && self.sums[TABLE_PLACES..].iter().all(|&sum| sum == i64::from(FILLER))
             && self.signed.iter().all(|table| table[TABLE_PLACES..].iter().all(|&value| value == FILLER as i32))
@@ -95,8 +94,8 @@ fn refusals_have_their_numbers() {
 #[test]
 fn a_short_slice_is_refused_with_1() {
     for slice in 0..8 {
-        for places in [0, 17, 31, TABLE_PLACES - 1] {
-            let needed = [STATE_NUMBERS, QUERY_LIMIT].get(slice).copied().unwrap_or(TABLE_PLACES);
+        for places in [0, 17, 160, 191, TABLE_PLACES - 1] {
+            let needed = [STATE_NUMBERS, LIST_NUMBERS].get(slice).copied().unwrap_or(TABLE_PLACES);
             let mut slices = Slices::with(0);
             slices.lend().start().unwrap();
             slices.cut(slice, places.min(needed - 1));
@@ -152,8 +151,52 @@ fn registrations_and_withdrawals_are_refused_with_3_to_9() {
     assert_eq!(engine.withdraw(33), Err(Refusal::NotRegistered));
     engine.withdraw(1).unwrap();
     engine.register(33, SUM, 1, 1).unwrap();
-    let numbers: Vec<u32> = engine.queries().iter().map(|query| query.number).collect();
+    let numbers: Vec<u32> = engine.queries().map(|query| query.number).collect();
     assert_eq!(numbers, (2..=33).collect::<Vec<u32>>());
+}
+
+#[test]
+fn the_list_is_read_in_place() {
+    let mut queries = Queries::new();
+    let (mut slices, mut answers) = (Slices::with(0), [ANSWER_FILLER; QUERY_LIMIT]);
+    let mut lent = slices.lend();
+    lent.queries = queries.numbers_mut();
+    lent.start().unwrap();
+    lent.register(30, MAXIMUM, 5, 2).unwrap();
+    lent.reading(1, &mut answers).unwrap();
+    lent.register(20, MINIMUM, 6, 1).unwrap();
+    lent.register(25, SUM, 7, 3).unwrap();
+    let first = Query { number: 30, kind: MAXIMUM, range: 5, slide: 2, origin: 0 };
+    let second = Query { number: 20, kind: MINIMUM, range: 6, slide: 1, origin: 1 };
+    let third = Query { number: 25, kind: SUM, range: 7, slide: 3, origin: 1 };
+    assert_eq!(queries.queries().collect::<Vec<Query>>(), [first, second, third]);
+    assert_eq!((queries.registered(), queries.query(1), queries.query(3)), (3, Some(second), None));
+    assert_eq!((queries.query[1], queries.query[3], queries.query(QUERY_LIMIT)), (second, Query::default(), None));
+    assert_eq!(queries.order[..4], [1, 2, 0, 0]);
+    assert_eq!(queries.numbers()[..10], [30, MAXIMUM, 5, 2, 0, 20, MINIMUM, 6, 1, 1]);
+    assert_eq!((&queries.numbers()[160..], queries.numbers().len()), (&queries.order[..], LIST_NUMBERS));
+}
+
+#[test]
+fn places_that_are_not_in_order_are_refused_with_2() {
+    let orders = [[3, 1, 0], [1, 1, 0], [2, 1, 0], [u32::MAX, 2, 0]];
+    for order in orders {
+        let mut slices = Slices::with(0);
+        let mut lent = slices.lend();
+        lent.start().unwrap();
+        for number in [30, 20, 25] {
+            lent.register(number, SUM, 5, 2).unwrap();
+        }
+        assert_eq!(lent.queries[160..163], [1, 2, 0]);
+        lent.queries[160..163].copy_from_slice(&order);
+        assert_eq!(lent.register(1, SUM, 1, 1), Err(Refusal::Damaged));
+        assert_eq!(lent.withdraw(20), Err(Refusal::Damaged));
+        assert_eq!(lent.reading(0, &mut []), Err(Refusal::Damaged));
+        assert_eq!(lent.totals(), Err(Refusal::Damaged));
+        assert_eq!(lent.queries[160..163], order);
+        lent.queries[160..163].copy_from_slice(&[1, 2, 0]);
+        lent.withdraw(20).unwrap();
+    }
 }
 
 #[test]
@@ -215,7 +258,10 @@ fn both_layers_agree() {
             }
         }
         assert_eq!(Ok(engine.totals()), lent.totals());
-        assert_eq!(engine.queries(), &lent.queries[..engine.queries().len()]);
+        for (i, query) in engine.queries().enumerate() {
+            let numbers = [query.number, query.kind, query.range, query.slide, query.origin];
+            assert_eq!(lent.queries[5 * i..5 * i + 5], numbers);
+        }
     }
     assert!(slices.beyond_untouched());
 }

@@ -1,7 +1,7 @@
 //! Rule `comparison`: `compare` is the one function of its name, makes one comparison for each extreme, is called in
-//! `Deque::close` alone, and the total that it returns is what the next comparison and the returned deque get. Closing
-//! steps, and the calls that close, stand where they are to (`steps.rs`), so that no deque that one of them returned is
-//! left behind.
+//! `Deque::close` alone, and the total that it returns is what the next comparison and the returned deque get. An
+//! evicted deque keeps its total. Closing steps, the evictions before them, and the calls that close, stand where they
+//! are to (`steps.rs`), so that no deque that one of them returned is left behind.
 
 use crate::shape::{arguments, assignments, is_struct, tail};
 use crate::source::{Finding, Function, Open, Sources};
@@ -21,9 +21,14 @@ const BODY: &str =
     "let total = total + 1; match extreme { Extreme::Maximum => Compared { verdict: older <= newer, total }, \
      Extreme::Minimum => Compared { verdict: newer <= older, total } }";
 
-/// Where deques are written out, of those crates that make comparisons or pass deques on: the empty one, and the one
-/// that a closing returns.
-const WRITERS: [&str; 2] = ["deque Deque::empty", CALLER];
+/// The eviction before a closing, and its body, as it is to be: the deque keeps its total.
+const EVICTION: &str = "deque Deque::evict";
+const EVICTED: &str = "let ring = self.ring; let kept = ring.evict(starts, horizon); \
+     Deque { ring: kept, comparisons: self.comparisons }";
+
+/// Where deques are written out, of those crates that make comparisons or pass deques on: the empty one, the one that
+/// is evicted, and the one that a closing returns.
+const WRITERS: [&str; 3] = ["deque Deque::empty", EVICTION, CALLER];
 const WRITTEN_IN: [&str; 3] = ["deque", "board", "engine"];
 
 pub fn rule(sources: &Sources) -> Vec<Finding> {
@@ -46,6 +51,9 @@ pub fn rule(sources: &Sources) -> Vec<Finding> {
             found.extend(caller(sources, function));
         } else if !function.is(COMPARE) {
             called_elsewhere(function, &mut found);
+        }
+        if function.is(EVICTION) && !is_written(&function.body, EVICTED) {
+            found.push(function.finding(function.line, format!("`{EVICTION}` is to be `{EVICTED}`")));
         }
         written_deques(sources, function, &mut found);
     }

@@ -1,6 +1,7 @@
 //! What holds a value of a partial: what is read from a table of values, followed through locals, through the fields
 //! that it is stored in, and through the functions that return it.
 
+use crate::open_partial;
 use crate::shape::{
     arguments, arms, assignments, block_after, bound_names, end_of_expression, is_struct, tail, Assignment,
 };
@@ -31,7 +32,8 @@ const OF_VALUES: [&str; 1] = ["deque"];
 /// What is known of all functions together: which of them return a value, and which fields hold one.
 #[derive(Default, PartialEq, Clone)]
 pub struct Facts {
-    carriers: BTreeSet<String>,
+    functions: BTreeSet<String>,
+    methods: BTreeSet<String>,
     fields: BTreeSet<String>,
 }
 
@@ -46,13 +48,25 @@ impl Facts {
                     (view.returns_value(), view.fields_stored())
                 };
                 if returns {
-                    facts.carriers.insert(function.name.clone());
+                    let carriers = if function.owner.is_some() { &mut facts.methods } else { &mut facts.functions };
+                    carriers.insert(function.name.clone());
                 }
                 facts.fields.extend(fields);
             }
             if facts == before {
                 return facts;
             }
+        }
+    }
+
+    /// Whether what is called at this place returns a value. After a dot it is a function of a type, after a path it
+    /// may be one, and else it is none.
+    fn returned_at(&self, list: &[Tree], at: usize) -> bool {
+        let known = |carriers: &BTreeSet<String>| list[at].word().is_some_and(|word| carriers.contains(word));
+        match at.checked_sub(1).and_then(|before| list[before].sign()) {
+            Some(".") => known(&self.methods),
+            Some("::") => known(&self.methods) || known(&self.functions),
+            _ => known(&self.functions),
         }
     }
 }
@@ -103,7 +117,7 @@ impl<'a> View<'a> {
         });
         each_list(&self.function.body, &mut |list| {
             for (field, value) in (0..list.len()).flat_map(|at| fields_at(self.sources, list, at)) {
-                if self.facts.fields.contains(field) {
+                if self.holds_value(field) && is_pattern(value) {
                     bound_names(value, &mut more);
                 }
             }
@@ -119,6 +133,11 @@ impl<'a> View<'a> {
         });
     }
 
+    /// Whether a field of this name holds a value. Those of the open partial, where they are named, do not.
+    fn holds_value(&self, field: &str) -> bool {
+        self.facts.fields.contains(field) && !open_partial::is_open(self.function, field)
+    }
+
     /// Whether a value is read at this place of a list.
     pub fn reads(&self, list: &[Tree], at: usize) -> bool {
         let Some(word) = list[at].word() else { return false };
@@ -132,10 +151,10 @@ impl<'a> View<'a> {
             }
         }
         if next.is_some_and(|next| next.group('(').is_some()) {
-            return self.facts.carriers.contains(word);
+            return self.facts.returned_at(list, at);
         }
         if after_dot {
-            return self.facts.fields.contains(word);
+            return self.holds_value(word);
         }
         let labels = |tree: &Tree| tree.is_sign(":") || tree.is_sign("::");
         self.locals.contains(word) && !next.is_some_and(labels)
@@ -268,6 +287,11 @@ fn fields_at<'a>(sources: &Sources, list: &'a [Tree], at: usize) -> Vec<(&'a str
         Some((part.first()?.word()?, value))
     };
     parts.into_iter().filter_map(field).collect()
+}
+
+/// Whether a field can be bound by this: in no pattern is there a dot, so that with one it is an expression.
+fn is_pattern(value: &[Tree]) -> bool {
+    value.iter().all(|tree| !tree.is_sign(".") && is_pattern(tree.inner().unwrap_or_default()))
 }
 
 /// The local that is assigned to.

@@ -1,5 +1,6 @@
 //! The extremes of the open partial: they are values once it is closed. Readings join them, which compares them with a
-//! reading; else they are handed to the closing steps, and written as numbers and back, and named nowhere else.
+//! reading; else they are handed to the closing steps, and written as numbers and back. Two fields of the same names
+//! hold values of tables, of what is closed since the horizon. Both are named nowhere else.
 
 use crate::shape::statements;
 use crate::source::{Finding, Function, Sources};
@@ -7,7 +8,7 @@ use crate::tokens::{is_written, mentions, split, Tree};
 
 const FIELDS: [&str; 2] = ["maximum", "minimum"];
 
-/// Which function names them, and how often each of the two.
+/// Which function names those of the open partial, and how often each of the two.
 const NAMED: [(&str, usize); 6] = [
     ("board Aggregate::first", 1),
     (JOINED_BY, 3),
@@ -16,6 +17,9 @@ const NAMED: [(&str, usize); 6] = [
     ("encoding held_in", 1),
     ("encoding numbers_of", 1),
 ];
+
+/// Which function names those of what is closed. There they are followed as what is read from a table.
+const OF_CLOSED: [(&str, usize); 2] = [("board Board::heads", 1), ("board Heads::value", 1)];
 
 /// Where one reading more joins them, how that is written, and the function that compares them for it, which is called
 /// nowhere else in its crate.
@@ -30,8 +34,14 @@ const GREATER: (&str, &str) = ("board", "greater");
 const CLOSED_BY: &str = "board Board::close";
 const CLOSING: &str = "close";
 
+/// Whether a field of this name is, in this function, one of the open partial, which is no value of a table.
+pub fn is_open(function: &Function, field: &str) -> bool {
+    FIELDS.contains(&field) && NAMED.iter().any(|(name, _)| function.is(name))
+}
+
 pub fn report(sources: &Sources, function: &Function, found: &mut Vec<Finding>) {
-    let wanted = NAMED.iter().find(|(name, _)| function.is(name)).map_or(0, |(_, times)| *times);
+    let mut known = NAMED.iter().chain(&OF_CLOSED);
+    let wanted = known.find(|(name, _)| function.is(name)).map_or(0, |(_, times)| *times);
     let joins = if function.is(JOINED_BY) { JOINED.len() } else { 0 };
     let mut words = vec![(FIELDS[0], wanted), (FIELDS[1], wanted)];
     if function.krate == GREATER.0 {

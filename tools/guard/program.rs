@@ -56,8 +56,9 @@ pub const CALLS: [(&str, &str, usize); 34] = [
     ("message", "io::write_all", 1),
 ];
 
-/// What `LENT` stands for in the statements below.
-pub const LENT: &str = "starts, sums, max_starts, max_values, min_starts, min_values";
+/// What `LENT` and `TABLES` stand for in the statements below: all that is lent, and the tables alone.
+pub const LENT: &str = "list, line, TABLES";
+pub const TABLES: &str = "starts, sums, max_starts, max_values, min_starts, min_values";
 
 /// Statements that stand in a function one after the other, once. Of a string nothing is compared.
 pub const WRITTEN: [(&str, &[&str]); 7] = [
@@ -71,13 +72,13 @@ pub const WRITTEN: [(&str, &[&str]); 7] = [
 ];
 
 const MAIN: [&str; 3] = [
-    "let ending = run(&mut starts, &mut sums, &mut max_starts, &mut max_values, &mut min_starts, &mut min_values, \
-     &mut chunk, &mut out);",
+    "let ending = run(&mut list, &mut line, &mut starts, &mut sums, &mut max_starts, &mut max_values, \
+     &mut min_starts, &mut min_values, &mut chunk, &mut out);",
     "let progress = ending.progress;",
     "report_failure(progress);",
 ];
 const RUN: [&str; 3] = [
-    "let opened = session::stream::open(LENT);",
+    "let opened = session::stream::open(list, TABLES);",
     "let done = read_all(opened, LENT, chunk, out);",
     "conclude(done, LENT, out)",
 ];

@@ -4,7 +4,7 @@
 //! streams' numbers are named where `NAMED` says. No crate but this one and the demonstration names what reads and
 //! writes.
 
-use crate::program::{CALLS, CRATE, FILE, FUNCTIONS, KIT, LENT, NAMED, OTHER_PROGRAMS, STREAMS, WRITTEN};
+use crate::program::{CALLS, CRATE, FILE, FUNCTIONS, KIT, LENT, NAMED, OTHER_PROGRAMS, STREAMS, TABLES, WRITTEN};
 use crate::shape::{arguments, is_keyword, statements};
 use crate::source::{File, Finding, Function, Sources};
 use crate::tokens::{each_list, is_written, mentions, Tree};
@@ -124,7 +124,7 @@ fn path(list: &[Tree], at: usize) -> String {
 /// Statements that are to stand in a function one after the other, once. Where they do not, the finding is at the first
 /// one that is another, after the most that are as they should be.
 fn written(sources: &Sources, function: &Function, wanted: &[&str], found: &mut Vec<Finding>) {
-    let wanted: Vec<String> = wanted.iter().map(|text| text.replace("LENT", LENT)).collect();
+    let wanted: Vec<String> = wanted.iter().map(|text| text.replace("LENT", LENT).replace("TABLES", TABLES)).collect();
     let mut whole = 0;
     let (mut most, mut line) = (0, function.line);
     each_list(&function.body, &mut |list| {

@@ -1,11 +1,15 @@
-//! Closing steps, which make the comparisons, and the open calls that close: each stands where `STEPS` says, as often
-//! as it says, in no loop there, and nowhere else.
+//! Closing steps, which make the comparisons, the evictions before them, and the open calls that close: each stands
+//! where `STEPS` says, as often as it says, in no loop there, and nowhere else.
 
 use crate::source::{Finding, Function, Sources};
-use crate::tokens::mentions;
+use crate::tokens::{each_word, mentions};
 
-/// Who calls a step, which one, and how often it stands there: `close` for the sums, the maxima and the minima.
-const STEPS: [(&str, &str, usize); 14] = [
+/// Who calls a step, which one, and how often it stands there: `evict` and `close` for the sums, the maxima and the
+/// minima.
+const STEPS: [(&str, &str, usize); 17] = [
+    ("deque Sums::evict", "evict", 1),
+    ("deque Deque::evict", "evict", 1),
+    ("board Board::close", "evict", 3),
     ("board Board::close", "close", 3),
     ("engine State::close_open", "close", 1),
     ("engine register", "close_open", 1),
@@ -21,13 +25,19 @@ const STEPS: [(&str, &str, usize); 14] = [
     ("demo perform", "register", 1),
     ("demo reading_into", "reading", 1),
 ];
-const NAMES: [&str; 4] = ["close", "close_open", "register", "reading"];
+const NAMES: [&str; 5] = ["evict", "close", "close_open", "register", "reading"];
+
+/// Where every ring is evicted before any is written: the one step does not stand after the other.
+const ORDER: (&str, &str, &str) = ("board Board::close", "evict", "close");
 
 pub fn findings(sources: &Sources) -> Vec<Finding> {
     let mut found = Vec::new();
     for function in &sources.functions {
         for step in NAMES {
             called(function, step, &mut found);
+        }
+        if function.is(ORDER.0) {
+            in_order(function, &mut found);
         }
     }
     for (caller, _, _) in STEPS {
@@ -49,4 +59,17 @@ fn called(function: &Function, step: &str, found: &mut Vec<Finding>) {
         let what = format!("`{step}` is called {} times in {}, not {wanted}", lines.len(), function.title());
         found.push(function.finding(line, if looped { format!("{what} and in no loop") } else { what }));
     }
+}
+
+/// The first step of `ORDER` after the second one.
+fn in_order(function: &Function, found: &mut Vec<Finding>) {
+    let (_, first, second) = ORDER;
+    let mut begun = false;
+    each_word(&function.body, &mut |word, line| {
+        begun |= word == second;
+        if begun && word == first {
+            let what = format!("`{first}` stands after `{second}` in {}: all are to stand before it", function.title());
+            found.push(function.finding(line, what));
+        }
+    });
 }

@@ -274,6 +274,16 @@ pub fn each_list<'a>(trees: &'a [Tree], visit: &mut dyn FnMut(&'a [Tree])) {
     }
 }
 
+/// Calls a function on every word of these trees with its line, in the order of the text.
+pub fn each_word(trees: &[Tree], visit: &mut dyn FnMut(&str, usize)) {
+    for tree in trees {
+        if let Some(word) = tree.word() {
+            visit(word, tree.line);
+        }
+        each_word(tree.inner().unwrap_or_default(), visit);
+    }
+}
+
 /// Whether a list begins with these: words and signs as they are written, `(`, `[` and `{` for a group.
 pub fn begins(trees: &[Tree], pattern: &str) -> bool {
     let wanted: Vec<&str> = pattern.split(' ').collect();

@@ -8,7 +8,7 @@
 The prover covers no function that has a reference to a record, so each of them is proved by a walk of its MIR,
 statement by statement. All of them are alike: a copy of the first 32 records (`records::copy::load`), one call of a
 covered function on the copy, the callee, and, where the list is lent by `&mut`, what changed is put back
-(`records::copy::store`). This program reads the statements off `rt mir`, counts the positions of locals and facts, and
+(`records::copy::store`) or another function changes the list. This program reads the statements off `rt mir`, counts the positions of locals and facts, and
 writes the walk. What it writes is an ordinary proof, which the prover judges: nothing is believed because it stands
 here. It stops where it meets a statement of another shape.
 
@@ -23,15 +23,14 @@ walks.json has `rows`, for each declared type where it is declared and which mod
     passed   what the callee is passed: names of parameters, `list` (the copy) and `places` (the length of the lent
              list)
     result   the type of the result
-    outcome  where the list is lent by `&mut`: the type of the callee's result, a struct of the result, the list and how
-             many records are put back
-    first    the name of that struct's first field
-    puts     where another function puts back what changed, and hands on that field: its name. Else the function does so
-             itself, by `records::copy::store`
+    outcome  where the list is lent by `&mut`: the type of the callee's result, a struct whose first field is the result
+    first    the name of that field
+    puts     where another function changes the list by that struct, and hands on that field: its name. Else the struct
+             has the list and how many records are put back, and the function does so, by `records::copy::store`
     says     what the contract says, says_callee what the callee's says. In both <NAME> is a slice at entry, <NAME'> at
              exit, <r> the result, and <tables>, <tables'> stand for the six tables
     law      the term that proves `says`, of: list, e1 : list = the copy, e2 : what the callee says, and with an outcome
-             also zs (the list at exit), e3 : zs = what was put back, <long> : the callee's list has 32 records
+             also zs (the list at exit), e3 : zs = what was put back, or what the function that changes the list says
     cites    modules of laws and definitions, with the names cited
 """
 import json

@@ -80,7 +80,7 @@ class Proof(Steps):
             modules[cited("records", self.crate, "proofs", module)] = names
         for row in self.rows():
             crate, module = dotted(row.module)
-            names = [f"{row.name}-{x}" for x in row.NAMES + ["count-is", "list-is", "write-fits", "long"]]
+            names = [f"{row.name}-{x}" for x in row.NAMES + ["count-is", "list-is", "write-fits"]]
             module = cited(crate, self.crate, "proofs", module)
             modules[module] = " ".join([modules.get(module, "")] + names)
         out = [f"use {RUNNING}"]
@@ -112,7 +112,7 @@ class Proof(Steps):
         self.write_walk(body)
         self.write_spec()
         proof = "\n".join(self.lines)
-        kept = "The records stay lent." if self.shared else "At the end the records are given up to what puts back."
+        kept = "The records stay lent." if self.shared else f"At the end the records are given up to `{self.puts_name() if self.puts else 'store'}`."
         head = (f"-- `{self.name}` meets its contract: a walk of its MIR, written by tools/walks. The records are copied, "
                 f"and the callee is called on the copy. {kept}\n-- Assumes nothing.\n")
         return wrapped(re.sub(r"\n\n\n+", "\n\n", head + self.uses(proof) + "\n\n" + proof.rstrip("\n") + "\n"))

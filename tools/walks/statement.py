@@ -46,8 +46,6 @@ class Statement:
         def fill(word):
             if word == "r":
                 return result
-            if word == "long":
-                return f"({self.outcome.name}-long r {self.result_is})"
             if word in ("tables", "tables'"):
                 return "(tables " + " ".join(fill(n + word[6:]) for n in BOARD) + ")"
             return exits[word[:-1]] if word.endswith("'") else self.by_name[word].entry
@@ -75,10 +73,14 @@ class Statement:
         """The functions that it calls: their contract, a short name, and their name."""
         out = [("Load", "load", "records::copy::load"), ("Callee", "callee", self.callee)]
         if self.puts:
-            out.append(("PutBack", "puts", self.puts))
+            out.append((self.puts_name().capitalize(), "puts", self.puts))
         if self.stores:
             out.append(("Store", "store", "records::copy::store"))
         return out
+
+    def puts_name(self):
+        """The name of the function that changes the lent list; its contract is that name with a capital."""
+        return self.puts.split("::")[-1]
 
     def known(self, calls):
         return " ".join(f"(known-{x} : Triple 𝓤 ({calls} #{x}) ({contract} 𝓤 H A mem run))" for contract, x, _ in self.called())

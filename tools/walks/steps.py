@@ -187,7 +187,7 @@ class Steps(Parts):
         self.lands(local, "tt, tt")
 
     def call_puts(self, arguments, local):
-        self.steps.append("-- what changed is put back")
-        self.steps.append(f"calls-put-back ! fm mem run known-puts {self.lent()} r {self.result_is} (λ i. {self.operands(arguments, self.front - 1)}) (λ zs e3 {self.queries.same} first-is.")
+        self.steps.append("-- the lent list is changed")
+        self.steps.append(f"calls-{self.puts_name()} ! fm mem run known-puts {self.lent()} r {self.result_is} (λ i. {self.operands(arguments, self.front - 1)}) (λ zs e3 {self.queries.same} first-is.")
         self.opened += 1
         self.lands(local, f"{self.result.named('lawful')} .typed (r .{self.config['first']}) _ first-is .0")

@@ -1,5 +1,6 @@
-// A demonstration of the five calls: it plays the starred cases and the sample session of document 01 and prints what
-// each call returns.
+// A demonstration of the five calls: it plays the starred cases and the sample session of document 01 on a query list of
+// 32 records, and prints what each call returns.
+mod lending;
 mod printed;
 mod script;
 mod show;
@@ -12,7 +13,7 @@ use crate::script::PLACES;
 use crate::script::call_of;
 use deque::ring::CAPACITY;
 use engine::state::State;
-use registry::queries::Queries;
+use records::copy::none;
 use window::count::Count;
 
 // A reading with an answer table of so many places.
@@ -184,8 +185,8 @@ fn main() {
     let mut min_values = [0i32; CAPACITY];
     let mut answers = [0i64; PLACES];
     let state = State::fresh();
-    let queries = Queries::empty();
-    let mut held = ByValue { state, queries };
+    let list = none();
+    let mut held = ByValue { state, list };
     let mut case = 0;
     while case < CASES {
         if 0 < case {

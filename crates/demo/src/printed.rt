@@ -1,18 +1,20 @@
 // The five calls, each printed on a line with what it returned.
+use crate::lending;
+use crate::lending::Replied;
 use crate::script::PLACES;
 use crate::show;
 use engine::calls::Answered;
 use engine::calls::TotalsReply;
 use engine::state::State;
-use registry::queries::Queries;
 use window::count::Count;
 use window::count::wide;
+use window::query::Query;
 use window::refusal::Verdict;
 
-// What goes from call to call by value.
+// What goes from call to call by value: the engine's state, and the records that are lent to each call.
 pub struct ByValue {
     pub state: State,
-    pub queries: Queries,
+    pub list: [Query; 32],
 }
 
 // 0, or the refusal.
@@ -21,6 +23,17 @@ fn show_verdict(verdict: Verdict) {
         Verdict::Passed => show::number(0),
         Verdict::Refused(refusal) => show::refused(refusal),
     }
+}
+
+// The end of the line of a start, a registration or a withdrawal. What it left goes on to the next call.
+fn concluded(done: Replied) -> ByValue {
+    let reply = done.reply;
+    let list = done.list;
+    let verdict = reply.verdict;
+    show_verdict(verdict);
+    show::line();
+    let state = reply.state;
+    ByValue { state, list }
 }
 
 // A start is made and printed.
@@ -35,23 +48,17 @@ pub fn start(
 ) -> ByValue {
     show::text(b"start ->");
     let state = held.state;
-    let queries = held.queries;
-    let reply = engine::calls::start(
+    let list = held.list;
+    concluded(lending::start(
         state,
-        queries,
+        list,
         starts,
         sums,
         max_starts,
         max_values,
         min_starts,
         min_values,
-    );
-    let verdict = reply.verdict;
-    show_verdict(verdict);
-    show::line();
-    let state = reply.state;
-    let queries = reply.queries;
-    ByValue { state, queries }
+    ))
 }
 
 // A registration is made and printed: number, kind, range and slide, then what it came to.
@@ -75,10 +82,10 @@ pub fn register(
     show::number(slide as u64);
     show::text(b" ->");
     let state = held.state;
-    let queries = held.queries;
-    let reply = engine::calls::register(
+    let list = held.list;
+    concluded(lending::register(
         state,
-        queries,
+        list,
         starts,
         sums,
         max_starts,
@@ -89,13 +96,7 @@ pub fn register(
         kind,
         range,
         slide,
-    );
-    let verdict = reply.verdict;
-    show_verdict(verdict);
-    show::line();
-    let state = reply.state;
-    let queries = reply.queries;
-    ByValue { state, queries }
+    ))
 }
 
 // A withdrawal is made and printed: the number, then what it came to.
@@ -113,10 +114,10 @@ pub fn withdraw(
     show::number(number as u64);
     show::text(b" ->");
     let state = held.state;
-    let queries = held.queries;
-    let reply = engine::calls::withdraw(
+    let list = held.list;
+    concluded(lending::withdraw(
         state,
-        queries,
+        list,
         starts,
         sums,
         max_starts,
@@ -124,13 +125,7 @@ pub fn withdraw(
         min_starts,
         min_values,
         number,
-    );
-    let verdict = reply.verdict;
-    show_verdict(verdict);
-    show::line();
-    let state = reply.state;
-    let queries = reply.queries;
-    ByValue { state, queries }
+    ))
 }
 
 // A reading is taken and printed: the value, the length of the answer table where it is not the usual one, then how
@@ -153,10 +148,10 @@ pub fn reading(
     }
     show::text(b" ->");
     let state = held.state;
-    let queries = held.queries;
-    let reply = engine::calls::reading(
+    let list = held.list;
+    let reply = lending::reading(
         state,
-        queries,
+        list,
         starts,
         sums,
         max_starts,
@@ -176,7 +171,7 @@ pub fn reading(
     }
     show::line();
     let state = reply.state;
-    ByValue { state, queries }
+    ByValue { state, list }
 }
 
 // Totals are asked for and printed: n, P, M and N.
@@ -191,10 +186,10 @@ pub fn totals(
 ) -> ByValue {
     show::text(b"totals ->");
     let state = held.state;
-    let queries = held.queries;
-    match engine::calls::totals(
+    let list = held.list;
+    match lending::totals(
         state,
-        queries,
+        list,
         starts,
         sums,
         max_starts,

@@ -35,14 +35,14 @@ unfolding boardOf
 read-board w a s x n = rw (a, s, x, n) refl
 
 -- a state by its parts
-pub read-state : (w : List ℕ) {count : ℕ} {held : Aggregate} {partial : Open} {board : Board}
-    → count ≡ countIn (at w 0) → held ≡ heldOf (at w 3) (at w 4) (at w 5) (at w 6) → partial ≡ openOf (at w 2) held → board ≡ boardOf w
-    → _≡_ {A = State} (record { count = count; partial = partial; board = board }) (stateOf w)
+pub read-state : (w : List ℕ) {count registered : ℕ} {held : Aggregate} {partial : Open} {board : Board}
+    → count ≡ countIn (at w 0) → registered ≡ registeredIn w → held ≡ heldOf (at w 3) (at w 4) (at w 5) (at w 6) → partial ≡ openOf (at w 2) held → board ≡ boardOf w
+    → _≡_ {A = State} (record { count = count; registered = registered; partial = partial; board = board }) (stateOf w)
 unfolding stateOf
-read-state w a h p b = rw (a, p, h, b) refl
+read-state w a g h p b = rw (a, g, p, h, b) refl
 
 -- numbers by their parts, as a state is written
-pub written-numbers : (st : State) (registered : ℕ) {held : Aggregate} {count closed case start sum maximum minimum lap previous : ℕ}
+pub written-numbers : (st : State) {held : Aggregate} {count closed case start sum maximum minimum lap previous : ℕ}
     → count ≡ st .count → closed ≡ st .board .closed → start ≡ held .start
     → case ≡ caseOf (st .partial) → held ≡ heldIn (st .partial) → sum ≡ unsigned (held .sum) → maximum ≡ unsigned (held .maximum) → minimum ≡ unsigned (held .minimum)
     → lap ≡ unsigned (st .board .sums .lap) → previous ≡ unsigned (st .board .sums .previous)
@@ -63,11 +63,11 @@ pub written-numbers : (st : State) (registered : ℕ) {held : Aggregate} {count 
     ∷ st .board .minima .ring .head
     ∷ st .board .minima .ring .len
     ∷ st .board .minima .comparisons
-    ∷ registered
+    ∷ st .registered
     ∷ [])
-    ≡ numbersOfState st registered
+    ≡ numbersOfState st
 unfolding numbersOfState
-written-numbers st registered n p s k h a b c d e = rw (n, p, s, k, a, b, c, d, e, h) refl
+written-numbers st n p s k h a b c d e = rw (n, p, s, k, a, b, c, d, e, h) refl
 
 -- what a state is within as the machine has it: the widths of its numbers
 pub record Within (st : State) : Type 0 where
@@ -103,24 +103,10 @@ held-again a s f g =
     (ap signed (narrow-same (unsigned (a .maximum)) (unsigned-narrow (a .maximum) f)) ∙ signed-unsigned (a .maximum))
     (ap signed (narrow-same (unsigned (a .minimum)) (unsigned-narrow (a .minimum) g)) ∙ signed-unsigned (a .minimum))
 
--- a state that is written is read again
-pub state-again : (st : State) (registered : ℕ) → Within st → stateOf (numbersOfState st registered) ≡ st
-unfolding stateOf boardOf numbersOfState
-state-again st registered w =
-    rw (
-      count-same (st .count) (w .count),
-      count-same (st .board .closed) (w .closed),
-      held-again (heldIn (st .partial)) (w .start) (w .maximum) (w .minimum),
-      open-again (st .partial) (heldIn (st .partial)) refl,
-      signed-unsigned (st .board .sums .lap),
-      signed-unsigned (st .board .sums .previous),
-    )
-    refl
-
--- and so is how many queries are registered
-pub registered-again : (st : State) (registered : ℕ) → Within st → registeredIn (numbersOfState st registered) ≡ registered
+-- how many queries are registered is read again
+registered-again : (st : State) → Within st → registeredIn (numbersOfState st) ≡ st .registered
 unfolding registeredIn withinWidths numbersOfState
-registered-again st registered w =
+registered-again st w =
     rw (
       le-leb (st .count) countLimit (w .count),
       le-leb (st .board .closed) countLimit (w .closed),
@@ -131,7 +117,27 @@ registered-again st registered w =
     )
     refl
 
+-- so is the rest
+parts-again : (st : State) → Within st
+    → _≡_ {A = State} (record { count = countIn (at (numbersOfState st) 0); registered = st .registered; partial = openOf (at (numbersOfState st) 2) (heldOf (at (numbersOfState st) 3) (at (numbersOfState st) 4) (at (numbersOfState st) 5) (at (numbersOfState st) 6)); board = boardOf (numbersOfState st) }) st
+unfolding boardOf numbersOfState
+parts-again st w =
+    rw (
+      count-same (st .count) (w .count),
+      count-same (st .board .closed) (w .closed),
+      held-again (heldIn (st .partial)) (w .start) (w .maximum) (w .minimum),
+      open-again (st .partial) (heldIn (st .partial)) refl,
+      signed-unsigned (st .board .sums .lap),
+      signed-unsigned (st .board .sums .previous),
+    )
+    refl
+
+-- a state that is written is read again
+pub state-again : (st : State) → Within st → stateOf (numbersOfState st) ≡ st
+unfolding stateOf
+state-again st w = rw (registered-again st w) (parts-again st w)
+
 -- eighteen of them
-pub numbers-eighteen : (st : State) (registered : ℕ) → length (numbersOfState st registered) ≡ stateNumbers
+pub numbers-eighteen : (st : State) → length (numbersOfState st) ≡ stateNumbers
 unfolding numbersOfState
-numbers-eighteen st registered = refl
+numbers-eighteen st = refl

@@ -1,16 +1,14 @@
--- The state and the query list, written as numbers and read from them.
+-- The state, written as numbers and read from them.
 -- Assumes nothing.
-use Prim.Native.Nat.{ℕ, zero, suc, _+_, _*_}
+use Prim.Native.Nat.{ℕ, _+_}
 use mathlib.Core.Bool.{Bool, cond, _&&_}
-use mathlib.Core.List.{List, [], _∷_, _++_}
+use mathlib.Core.List.{List, [], _∷_}
 use lib.Dec.{eqb, ltb, leb}
 use lib.IntN.{pos}
-use lib.ListN.{getD, take, drop}
-use Rattle.window.specs.declared.query.Query.{Query}
+use lib.ListN.{getD}
 use Rattle.window.specs.Queries.{countLimit}
 use Rattle.deque.specs.declared.extremes.Deque.{Deque}
 use Rattle.deque.specs.declared.sums.Sums.{Sums}
-use Rattle.registry.specs.declared.queries.Queries.{Queries}
 use Rattle.registry.specs.Records.{recordLimit}
 use Rattle.board.specs.declared.aggregate.Aggregate.{Aggregate}
 use Rattle.board.specs.declared.board.Board.{Board}
@@ -40,9 +38,9 @@ heldIn Nothing = record { start = 0; sum = pos 0; maximum = pos 0; minimum = pos
 heldIn Empty = record { start = 0; sum = pos 0; maximum = pos 0; minimum = pos 0 }
 heldIn (Holding a) = a
 
--- the numbers of a state, with so many queries registered
-unfoldable pub numbersOfState : State → ℕ → List ℕ
-numbersOfState st registered =
+-- the numbers of a state
+unfoldable pub numbersOfState : State → List ℕ
+numbersOfState st =
     st .count
     ∷ st .board .closed
     ∷ caseOf (st .partial)
@@ -60,7 +58,7 @@ numbersOfState st registered =
     ∷ st .board .minima .ring .head
     ∷ st .board .minima .ring .len
     ∷ st .board .minima .comparisons
-    ∷ registered
+    ∷ st .registered
     ∷ []
 
 -- the number at a place
@@ -105,15 +103,6 @@ boardOf w =
       minima = dequeOf (at w 14) (at w 15) (at w 16);
     }
 
--- the state that numbers are read as
-unfoldable pub stateOf : List ℕ → State
-stateOf w =
-    record {
-      count = countIn (at w 0);
-      partial = openOf (at w 2) (heldOf (at w 3) (at w 4) (at w 5) (at w 6));
-      board = boardOf w;
-    }
-
 -- each number is within the width of what it stands for
 unfoldable pub withinWidths : List ℕ → Bool
 withinWidths w =
@@ -128,40 +117,12 @@ withinWidths w =
 unfoldable pub registeredIn : List ℕ → ℕ
 registeredIn w = cond (withinWidths w) (at w 17) (recordLimit + 1)
 
--- ---- the query list
-
--- a record is written as 5 numbers: number, kind, range, slide, registration point
-abbrev pub queryNumbers : ℕ
-queryNumbers = 5
-
--- the list as 160
-abbrev pub listNumbers : ℕ
-listNumbers = recordLimit * queryNumbers
-
--- the numbers of records
-abbrev pub numbersIn : List Query → List ℕ
-numbersIn [] = []
-numbersIn (q ∷ qs) = q .number ∷ q .kind ∷ q .range ∷ q .slide ∷ q .origin ∷ numbersIn qs
-
--- the record that starts at a place
-abbrev pub recordAt : List ℕ → ℕ → Query
-recordAt ns p = record { number = at ns p; kind = at ns (p + 1); range = at ns (p + 2); slide = at ns (p + 3); origin = at ns (p + 4) }
-
--- numbers with this record from a place on
-abbrev pub putRecord : ℕ → Query → List ℕ → List ℕ
-putRecord p q ns = take p ns ++ numbersIn (q ∷ []) ++ drop (p + queryNumbers) ns
-
--- the first k records that numbers are read as
-unfoldable pub recordsIn : ℕ → List ℕ → List Query
-recordsIn zero ns = []
-recordsIn (suc k) ns = recordAt ns 0 ∷ recordsIn k (drop queryNumbers ns)
-
--- the query list that numbers are read as, of which so many are registered
-abbrev pub listOf : ℕ → List ℕ → Queries
-listOf registered ns = record { count = registered; records = recordsIn recordLimit ns }
-
--- ---- room for both
-
--- there are places for the numbers of a state and of a query list
-unfoldable pub roomFor : ℕ → ℕ → Bool
-roomFor state queries = leb stateNumbers state && leb listNumbers queries
+-- the state that numbers are read as
+unfoldable pub stateOf : List ℕ → State
+stateOf w =
+    record {
+      count = countIn (at w 0);
+      registered = registeredIn w;
+      partial = openOf (at w 2) (heldOf (at w 3) (at w 4) (at w 5) (at w 6));
+      board = boardOf w;
+    }

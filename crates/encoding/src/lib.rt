@@ -1,5 +1,3 @@
-// The engine's state and query list, written as numbers and read from them.
+// The state as numbers, for callers that lend numbers alone.
 pub mod signed; // a signed number as an unsigned one
 pub mod state; // the state as 18 numbers
-pub mod list; // the query list as 160 numbers
-pub mod room; // room for both

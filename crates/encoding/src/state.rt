@@ -9,7 +9,7 @@ use deque::ring::Ring;
 use deque::sums::Sums;
 use engine::partial::Open;
 use engine::state::State;
-use registry::queries::RECORDS;
+use registry::list::RECORDS;
 use window::count::COUNT_LIMIT;
 use window::count::Count;
 use window::count::wide;
@@ -132,6 +132,7 @@ fn state_of(w: [u64; 18]) -> State
     let board = board_of(w);
     State {
         count: count_in(w[0]),
+        registered: registered_in(w),
         partial,
         board,
     }
@@ -194,10 +195,10 @@ fn held_in(partial: Open) -> Aggregate
     }
 }
 
-// The numbers of a state, with so many queries registered. They are read again as that state.
-fn numbers_of(state: State, registered: usize) -> [u64; 18]
-    ensures written { λ r. ⌜ r ≡ numbersOfState state registered ⌝ }
-    ensures read { λ r. ⌜ (stateOf r ≡ state) × (registeredIn r ≡ registered) ⌝ }
+// The numbers of a state. They are read again as that state.
+fn numbers_of(state: State) -> [u64; 18]
+    ensures written { λ r. ⌜ r ≡ numbersOfState state ⌝ }
+    ensures read { λ r. ⌜ stateOf r ≡ state ⌝ }
 {
     let partial = state.partial;
     let held = held_in(partial);
@@ -226,7 +227,7 @@ fn numbers_of(state: State, registered: usize) -> [u64; 18]
         minima_ring.head as u64,
         minima_ring.len as u64,
         minima.comparisons,
-        registered as u64,
+        state.registered as u64,
     ]
 }
 
@@ -253,15 +254,6 @@ pub fn load_state(words: &[u64]) -> State
     state_of(w)
 }
 
-// How many queries are registered beside it.
-pub fn load_registered(words: &[u64]) -> usize
-    requires { ⌜ stateNumbers ≤ length (now words) ⌝ }
-    ensures { λ r. ⌜ r ≡ registeredIn (take stateNumbers (now (words .entry))) ⌝ }
-{
-    let w = load_numbers(words);
-    registered_in(w)
-}
-
 // These numbers stand at the front.
 fn store_numbers(words: &mut [u64], w: [u64; 18])
     requires { ⌜ stateNumbers ≤ length (now words) ⌝ }
@@ -275,11 +267,11 @@ fn store_numbers(words: &mut [u64], w: [u64; 18])
 }
 
 // The state is written: it is read again as it was.
-pub fn store_state(words: &mut [u64], state: State, registered: usize)
+pub fn store_state(words: &mut [u64], state: State)
     requires { ⌜ stateNumbers ≤ length (now words) ⌝ }
-    ensures written { λ _. ⌜ now (words .exit) ≡ numbersOfState state registered ++ drop stateNumbers (now (words .entry)) ⌝ }
-    ensures read { λ _. ⌜ (stateOf (take stateNumbers (now (words .exit))) ≡ state) × (registeredIn (take stateNumbers (now (words .exit))) ≡ registered) ⌝ }
+    ensures written { λ _. ⌜ now (words .exit) ≡ numbersOfState state ++ drop stateNumbers (now (words .entry)) ⌝ }
+    ensures read { λ _. ⌜ stateOf (take stateNumbers (now (words .exit))) ≡ state ⌝ }
 {
-    let w = numbers_of(state, registered);
+    let w = numbers_of(state);
     store_numbers(words, w);
 }

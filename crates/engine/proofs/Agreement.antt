@@ -11,9 +11,9 @@ use Rattle.window.specs.Queries.{countLimit}
 use Rattle.window.proofs.Steps.{refused-from-three}
 use Rattle.board.specs.Boards.{Within}
 use Rattle.board.proofs.Holding.{board-live, holds-within}
-use Rattle.engine.specs.Machine.{Machine, horizonOf, closedOf, ledgerOf, Represents, RepresentsAt}
+use Rattle.engine.specs.Machine.{Machine, machineLong, horizonOf, closedOf, ledgerOf, Represents, RepresentsAt}
 use Rattle.engine.specs.Contracts.{EnsuresAt}
-use Rattle.engine.specs.Demand3.{PerformsAt, Performs, Performed, ended, called, Fresh, machineLong, Demand3, FromStart, BoardLive, NeverDamaged}
+use Rattle.engine.specs.Demand3.{PerformsAt, Performs, Performed, ended, called, Fresh, Demand3, FromStart, BoardLive, NeverDamaged}
 
 module _ (limit : ℕ) where
   -- one call on what represents a state of the model: the outcome is the model's, and what is left represents the
@@ -65,8 +65,8 @@ demand-3 fresh f calls outcomes m p =
       agrees =
           record {
             outcomes = k .0;
-            queries = rep .queries .used;
-            unused = rep .queries .tidy;
+            queries = rep .list .queries;
+            unused = rep .list .tidy;
             readings = rep .state .count;
             partials = rep .state .board .closed ∙ length-map (reached calls .closed) (closedOf (reached calls .readings));
             maxima = rep .state .board .maxTotal;

@@ -5,8 +5,8 @@ use mathlib.Core.Path.{_≡_}
 use mathlib.Core.Bool.{Bool, true}
 use mathlib.Core.List.{List}
 use Rattle.window.specs.Calls.{Call, start, totals, Outcome}
-use Rattle.engine.specs.Machine.{Machine}
-use Rattle.engine.specs.Demand3.{Performs, Performed, ended, called, Fresh, machineLong, Demand3On, FromStartOn, BoardLiveOn, NeverDamagedOn}
+use Rattle.engine.specs.Machine.{Machine, machineLong}
+use Rattle.engine.specs.Demand3.{Performs, Performed, ended, called, Fresh, Demand3On, FromStartOn, BoardLiveOn, NeverDamagedOn}
 use Rattle.engine.proofs.Agreement.{demand-3, from-start, from-start-live, never-damaged}
 
 -- `Long` is what the calls ask of it, and keep; check 1 (`passes`) gives it

@@ -2,22 +2,23 @@
 -- Assumes nothing.
 use mathlib.Core.Path.{_≡_, sym, subst}
 use mathlib.Core.Bool.{Bool, true}
+use mathlib.Core.List.{List}
+use Prim.Native.Nat.{ℕ}
 use Rattle.window.specs.declared.refusal.Refusal.{Refusal}
 use Rattle.window.specs.declared.refusal.Verdict.{Verdict}
 use Rattle.window.specs.declared.refusal.Verdict.the-variants.{Passed, Refused}
 use Rattle.window.proofs.Refusals.{refused-passed}
-use Rattle.registry.specs.declared.queries.Queries.{Queries}
 use Rattle.engine.specs.declared.state.State.{State}
 use Rattle.engine.specs.States.{Intact, Judged, isShort, isDamaged, isJudged}
 
-module _ (long : Bool) (st : State) (l : Queries) where
+module _ (long : Bool) (st : State) (l : List ℕ) where
   -- a refusal by checks 1 and 2 decides, whatever the call's own checks come to
   pub judged-first : (own w : Verdict) (r : Refusal) → Judged long st l Passed w → w ≡ Refused r → Judged long st l own (Refused r)
   judged-first own w r (isShort e) i = subst (Judged long st l own) i (isShort e)
   judged-first own w r (isDamaged e f) i = subst (Judged long st l own) i (isDamaged e f)
   judged-first own w r (isJudged e f) i = refused-passed r (sym i)
 
-  -- where they pass, the tables are long enough, and state and list are intact
+  -- where they pass, list and tables are long enough, and state and list are intact
   pub judged-passed : (own w : Verdict) → Judged long st l own w → w ≡ Passed → (long ≡ true) × Intact st l × (own ≡ Passed)
   judged-passed own w (isShort e) i = refused-passed _ i
   judged-passed own w (isDamaged e f) i = refused-passed _ i

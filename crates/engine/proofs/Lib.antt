@@ -11,6 +11,7 @@ pub mod Judging
 pub mod Taking
 pub mod Stepping
 pub mod Keeping
+pub mod Listing
 pub mod Refusing
 pub mod Accepting
 pub mod Agreement

@@ -2,7 +2,7 @@
 -- that are the model's pass it.
 -- Assumes nothing.
 use mathlib.Core.Path.{_≡_, refl, sym, ap, _∙_, subst}
-use mathlib.Core.Bool.{false}
+use mathlib.Core.Bool.{true, false}
 use mathlib.Core.List.{List}
 use Prim.Native.Nat.{ℕ, _+_, _-_, _*_, _≤_, _<_}
 use native.Mathlib.Nat.{le-refl}
@@ -25,8 +25,8 @@ use Rattle.window.proofs.Lists.{each-take, each-drop}
 use Rattle.window.proofs.Tiling.{ordered-count}
 use Rattle.window.proofs.Bounds.{bounded, sum-bound}
 use Rattle.deque.specs.Sums.{sumLimit}
-use Rattle.registry.specs.declared.queries.Queries.{Queries}
-use Rattle.registry.specs.Records.{used}
+use Rattle.registry.specs.Records.{used, listFits}
+use Rattle.registry.proofs.Intact.{intact-fits}
 use Rattle.board.specs.declared.aggregate.Aggregate.{Aggregate}
 use Rattle.engine.specs.declared.partial.Open.{Open}
 use Rattle.engine.specs.declared.partial.Open.the-variants.{Nothing, Empty, Holding}
@@ -65,7 +65,7 @@ module _ (st : State) (ok : Sound st) where
   -- it is ready for a closing with this open, at any count, where a partial that holds readings is small and one more
   -- can be counted
   ready-with : (n : ℕ) (o : Open) → st .count ≤ countLimit → ((a : Aggregate) → o ≡ Holding a → Small sumLimit (a .sum) × (st .board .closed < countLimit))
-      → Ready (record { count = n; partial = o; board = st .board })
+      → Ready (record { count = n; registered = st .registered; partial = o; board = st .board })
   ready-with n o l p =
       record { board = ok .board; partial = p }
 
@@ -117,18 +117,19 @@ module _ (s : model.State) (v : Invariant s) (readings : Each IsReading (s .read
             (subst (λ (c : ℕ). FitsOpen (count s) c (st .partial)) (sym p) (open-fits (st .partial) (i .partial)));
       }
 
-  -- queries that are the model's are not damaged
-  pub list-intact : (n : ℕ) (l : Queries) → n ≡ count s → ListIs s l → damaged n (l .count) (used l) ≡ false
-  list-intact n l e k =
-      ap (λ (m : ℕ). damaged m (l .count) (used l)) e
-      ∙ ap (λ (c : ℕ). damaged (count s) c (used l)) (k .count)
-      ∙ ap (damaged (count s) (length (s .queries))) (k .used)
-      ∙ (bounded s v) .notDamaged
+  -- a list that is the model's passes
+  pub list-fits : (n k : ℕ) (l : List ℕ) → n ≡ count s → ListIs s k l → listFits n k l ≡ true
+  list-fits n k l e i =
+      intact-fits n k l (i .inOrder)
+      (ap (λ (m : ℕ). damaged m k (used k l)) e
+      ∙ ap (damaged (count s) k) (i .queries)
+      ∙ ap (λ (c : ℕ). damaged (count s) c (s .queries)) (i .count)
+      ∙ (bounded s v) .notDamaged)
 
 -- what represents a state of the model passes check 2
-pub represents-intact : (s : model.State) (m : Machine) → Represents s m → Intact (m .state) (m .queries)
+pub represents-intact : (s : model.State) (m : Machine) → Represents s m → Intact (m .state) (m .list)
 represents-intact s m r =
     record {
-      list = list-intact s (r .invariant) (r .readings) (m .state .count) (m .queries) (r .state .count) (r .queries);
+      list = list-fits s (r .invariant) (r .readings) (m .state .count) (m .state .registered) (m .list) (r .state .count) (r .list);
       state = state-sound s (r .invariant) (r .readings) (m .state) (m .tables) (r .state);
     }

@@ -14,7 +14,7 @@ use Rattle.window.proofs.Refusals.{refused-passed, refusal-each}
 use Rattle.registry.specs.Records.{used}
 use Rattle.engine.specs.declared.state.State.{State}
 use Rattle.engine.specs.Answers.{places}
-use Rattle.engine.specs.Machine.{Machine, Represents}
+use Rattle.engine.specs.Machine.{Machine, queriesOf, Represents}
 use Rattle.engine.specs.Contracts.{InRows, verdictOf}
 
 -- ---- the model's step, as a verdict and what follows on acceptance
@@ -52,5 +52,5 @@ own-row (reading v places) n qs r e =
 own-row totals n qs r e = refused-passed r (sym e)
 
 -- the queries and the count on which a call is judged are those of the model
-pub same-verdict : (c : Call) (s : model.State) (m : Machine) → Represents s m → verdictOf c (m .state .count) (used (m .queries)) ≡ verdictOf c (count s) (s .queries)
-same-verdict c s m rep = rw (rep .state .count, rep .queries .used)
+pub same-verdict : (c : Call) (s : model.State) (m : Machine) → Represents s m → verdictOf c (m .state .count) (queriesOf m) ≡ verdictOf c (count s) (s .queries)
+same-verdict c s m rep = rw (rep .state .count, rep .list .queries)

@@ -21,6 +21,7 @@ pub record Ready (st : State) : Type 0 where
 -- state and tables before and after the closing of the open partial a, with the horizon h
 pub record Closed (a : Aggregate) (h : ℕ) (st : State) (t : Tables) (st′ : State) (t′ : Tables) : Type 0 where
   pub count : st′ .count ≡ st .count
+  pub registered : st′ .registered ≡ st .registered
   pub partial : st′ .partial ≡ Empty
   pub board : CloseEnsures a h (st .board) t (st′ .board) t′
 

@@ -4,6 +4,7 @@ use Prim.Native.Nat.{ℕ, _+_}
 use mathlib.Core.Path.{_≡_}
 use mathlib.Core.Bool.{Bool, true, false}
 use mathlib.Core.List.{List, [], _∷_}
+use lib.Dec.{eqb}
 use lib.IntN.{ℤ}
 use lib.ListN.{length}
 use Rattle.window.specs.Lists.{any}
@@ -15,11 +16,11 @@ use Rattle.window.specs.Refusals.{damaged, firstRefusal, registerChecks, withdr
 use Rattle.window.specs.Calls.{Call, start, register, withdraw, reading, totals, Outcome, accepted, refused}
 use Rattle.window.specs.Model as model
 use Rattle.window.specs.Model.{initial, stepAt}
-use Rattle.registry.specs.Records.{used, occurs}
-use Rattle.board.specs.Tables.{tablesLong, zeroedTables, TablesKept}
+use Rattle.registry.specs.Records.{ordered, ListKept}
+use Rattle.board.specs.Tables.{zeroedTables, TablesKept}
 use Rattle.engine.specs.States.{Intact}
 use Rattle.engine.specs.Answers.{answeredPlaces}
-use Rattle.engine.specs.Machine.{Machine, RepresentsAt}
+use Rattle.engine.specs.Machine.{Machine, queriesOf, machineLong, RepresentsAt}
 
 -- what a call says of the machine before it, its outcome and the machine after it
 abbrev pub Promise : Type 1
@@ -37,12 +38,12 @@ rows totals = 1 ∷ 2 ∷ []
 
 -- the number k is one of them
 abbrev pub InRows : Call → ℕ → Type 0
-InRows c k = occurs k (rows c) ≡ true
+InRows c k = any (eqb k) (rows c) ≡ true
 
 -- number 2 is always given where the query count is above 32, a used record breaks 3 to 6 or has g above n, or two used
 -- records share a number
 abbrev pub listDamaged : Machine → Bool
-listDamaged m = damaged (m .state .count) (m .queries .count) (used (m .queries))
+listDamaged m = damaged (m .state .count) (m .state .registered) (queriesOf m)
 
 -- ---- what decides
 
@@ -60,9 +61,9 @@ verdictOf c n qs = verdictAt countLimit c n qs
 
 -- every check passes
 pub record PassesAt (limit : ℕ) (c : Call) (m : Machine) : Type 0 where
-  pub long : tablesLong (m .tables) ≡ true
-  pub intact : Intact (m .state) (m .queries)
-  pub own : verdictAt limit c (m .state .count) (used (m .queries)) ≡ Passed
+  pub long : machineLong m ≡ true
+  pub intact : Intact (m .state) (m .list)
+  pub own : verdictAt limit c (m .state .count) (queriesOf m) ≡ Passed
 
 -- with the limit of this form
 abbrev pub Passes : Call → Machine → Type 0
@@ -73,8 +74,9 @@ Passes c m = PassesAt countLimit c m
 -- the call c on m came to the outcome o and left m′
 pub record EnsuresAt (limit : ℕ) (c : Call) (m : Machine) (o : Outcome) (m′ : Machine) : Type 0 where
   -- checks 1 and 2
-  pub short : tablesLong (m .tables) ≡ false → o ≡ refused 1
-  pub broken : tablesLong (m .tables) ≡ true → listDamaged m ≡ true → o ≡ refused 2
+  pub short : machineLong m ≡ false → o ≡ refused 1
+  pub broken : machineLong m ≡ true → listDamaged m ≡ true → o ≡ refused 2
+  pub disordered : machineLong m ≡ true → ordered (m .state .registered) (m .list) ≡ false → o ≡ refused 2
   -- whatever state of the model is represented: the outcome is the model's, and what is left represents the model's
   -- next state
   pub agrees : (s : model.State) → RepresentsAt limit s m → o ≡ (stepAt limit s c) .outcome
@@ -84,7 +86,8 @@ pub record EnsuresAt (limit : ℕ) (c : Call) (m : Machine) (o : Outcome) (m′ 
   pub own : (k : ℕ) → o ≡ refused k → InRows c k
   -- whatever the tables hold: where every check passes, it is not refused
   pub accepts : PassesAt limit c m → (k : ℕ) → o ≡ refused k → ⊥
-  -- no place beyond the first 4,096 of a table is written
+  -- no place beyond the list's, and none beyond the first 4,096 of a table, is written
+  pub listKept : ListKept (m .list) (m′ .list)
   pub kept : TablesKept (m .tables) (m′ .tables)
 
 -- with the limit of this form
@@ -106,7 +109,7 @@ pub record ReadingEnsuresAt (limit : ℕ) (v : ℤ) (before after : List ℤ) (m
   pub ensures : EnsuresAt limit (reading v (length before)) m o m′
   pub places : after ≡ placesAfter o before
   -- where nothing is cut, no table is touched
-  pub uncut : any (edge (m .state .count + 1)) (used (m .queries)) ≡ false → m′ .tables ≡ m .tables
+  pub uncut : any (edge (m .state .count + 1)) (queriesOf m) ≡ false → m′ .tables ≡ m .tables
 
 -- with the limit of this form
 abbrev pub ReadingEnsures : ℤ → List ℤ → List ℤ → Machine → Outcome → Machine → Type 0
@@ -117,11 +120,12 @@ ReadingEnsures v before after m o m′ = ReadingEnsuresAt countLimit v before af
 -- a start on the tables of m, whatever they hold, came to o and left m′
 pub record StartEnsuresAt (limit : ℕ) (m : Machine) (o : Outcome) (m′ : Machine) : Type 0 where
   -- check 1 is the only one
-  pub short : tablesLong (m .tables) ≡ false → o ≡ refused 1
-  pub accepts : tablesLong (m .tables) ≡ true → o ≡ accepted (0 ∷ []) []
+  pub short : machineLong m ≡ false → o ≡ refused 1
+  pub accepts : machineLong m ≡ true → o ≡ accepted (0 ∷ []) []
   -- what is left represents the model's first state, and the tables are zeroed
-  pub represents : tablesLong (m .tables) ≡ true → RepresentsAt limit initial m′
-  pub zeroes : tablesLong (m .tables) ≡ true → m′ .tables ≡ zeroedTables (m .tables)
+  pub represents : machineLong m ≡ true → RepresentsAt limit initial m′
+  pub zeroes : machineLong m ≡ true → m′ .tables ≡ zeroedTables (m .tables)
+  pub listKept : ListKept (m .list) (m′ .list)
   pub unchanged : (k : ℕ) → o ≡ refused k → m′ ≡ m
   pub own : (k : ℕ) → o ≡ refused k → InRows start k
 

@@ -11,11 +11,10 @@ use lib.ListN.{length}
 use Rattle.window.specs.Queries.{countLimit}
 use Rattle.window.specs.Calls.{Call, start, register, withdraw, reading, totals, Outcome, refused}
 use Rattle.window.specs.Model.{count, initial, totalsOf, Ran, run, reached}
-use Rattle.registry.specs.Records.{used, Tidy}
-use Rattle.board.specs.Tables.{tablesLong}
+use Rattle.registry.specs.Records.{Tidy}
 use Rattle.board.specs.Boards.{HoldsLive}
 use Rattle.engine.specs.declared.calls.Answered.{Answered}
-use Rattle.engine.specs.Machine.{Machine, horizonOf, ledgerOf, Represents}
+use Rattle.engine.specs.Machine.{Machine, queriesOf, machineLong, horizonOf, ledgerOf, Represents}
 use Rattle.engine.specs.Outcomes.{readingOutcome}
 use Rattle.engine.specs.Contracts.{Promise, EnsuresAt, ReadingEnsuresAt, StartEnsuresAt}
 
@@ -73,8 +72,8 @@ pub record EndsAs (r : Ran) (os : List Outcome) (m : Machine) : Type 0 where
   -- for each call: acceptance or refusal, the numbers returned and, at an accepted reading, the answers
   pub outcomes : os ≡ r .outcomes
   -- after the list: the queries, with all unused records 0
-  pub queries : used (m .queries) ≡ r .state .queries
-  pub unused : Tidy (m .queries)
+  pub queries : queriesOf m ≡ r .state .queries
+  pub unused : Tidy (m .state .registered) (m .list)
   -- n, P, M and N
   pub readings : m .state .count ≡ count (r .state)
   pub partials : m .state .board .closed ≡ length (r .state .closed)
@@ -122,10 +121,6 @@ module _ {M : Type 0} (machineOf : M → Machine) (passes : M → Bool) (perform
       (c : Call) (o : Outcome) (m′ : M) → performs c m o m′ → (k : ℕ) → o ≡ refused k → 3 ≤ k)
 
 -- ---- of the engine itself
-
--- check 1 on a machine
-abbrev pub machineLong : Machine → Bool
-machineLong m = tablesLong (m .tables)
 
 abbrev pub Demand3 : Type 0
 Demand3 = Demand3On (λ (m : Machine). m) machineLong Performs

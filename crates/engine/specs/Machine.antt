@@ -1,8 +1,9 @@
 -- What the caller holds between two calls, and which states of the reference model it represents.
 -- Assumes nothing.
 use Prim.Native.Nat.{ℕ, _<_}
+use lib.Dec.{leb}
 use mathlib.Core.Path.{_≡_}
-use mathlib.Core.Bool.{true}
+use mathlib.Core.Bool.{Bool, true, _&&_}
 use mathlib.Core.Option.{none, some}
 use mathlib.Core.List.{List, map}
 use lib.IntN.{ℤ}
@@ -15,8 +16,8 @@ use Rattle.window.specs.Calls.{IsReading}
 use Rattle.window.specs.Model as model
 use Rattle.window.specs.Model.{count}
 use Rattle.window.specs.Invariant.{InvariantAt}
-use Rattle.registry.specs.declared.queries.Queries.{Queries}
-use Rattle.registry.specs.Records.{used, Tidy}
+use Rattle.window.specs.declared.query.Query.{Query}
+use Rattle.registry.specs.Records.{listPlaces, used, ordered, Tidy}
 use Rattle.board.specs.declared.aggregate.Aggregate.{Aggregate}
 use Rattle.board.specs.Ledgers.{Ledger, ledger}
 use Rattle.board.specs.Boards.{Holds}
@@ -28,12 +29,20 @@ use Rattle.board.specs.Tables.{Tables, tablesLong}
 -- state, query list and tables
 pub record Machine : Type 0 where
   pub state : State
-  pub queries : Queries
+  pub list : List ℕ
   pub tables : Tables
 
 -- the three, in this order
-abbrev pub machine : State → Queries → Tables → Machine
-machine st l t = record { state = st; queries = l; tables = t }
+abbrev pub machine : State → List ℕ → Tables → Machine
+machine st l t = record { state = st; list = l; tables = t }
+
+-- the registered queries
+abbrev pub queriesOf : Machine → List Query
+queriesOf m = used (m .state .registered) (m .list)
+
+-- check 1: query list and tables have their lengths
+unfoldable pub machineLong : Machine → Bool
+machineLong m = leb listPlaces (length (m .list)) && tablesLong (m .tables)
 
 -- ---- the open partial
 
@@ -68,11 +77,12 @@ ledgerOf s = ledger (map (closedOf (s .readings)) (s .closed)) (s .maxComparison
 
 -- ---- the query list
 
--- the used records are the model's queries, and the unused ones are 0
-pub record ListIs (s : model.State) (l : Queries) : Type 0 where
-  pub count : l .count ≡ length (s .queries)
-  pub used : used l ≡ s .queries
-  pub tidy : Tidy l
+-- the used records, k of them, are the model's queries, their places by number are in order, and the unused ones are 0
+pub record ListIs (s : model.State) (k : ℕ) (l : List ℕ) : Type 0 where
+  pub count : k ≡ length (s .queries)
+  pub queries : used k l ≡ s .queries
+  pub inOrder : ordered k l ≡ true
+  pub tidy : Tidy k l
 
 -- ---- the whole
 
@@ -87,8 +97,8 @@ pub record StateIs (s : model.State) (st : State) (t : Tables) : Type 0 where
 pub record RepresentsAt (limit : ℕ) (s : model.State) (m : Machine) : Type 0 where
   pub invariant : InvariantAt limit s
   pub readings : Each IsReading (s .readings)
-  pub long : tablesLong (m .tables) ≡ true
-  pub queries : ListIs s (m .queries)
+  pub long : machineLong m ≡ true
+  pub list : ListIs s (m .state .registered) (m .list)
   pub state : StateIs s (m .state) (m .tables)
 
 -- with the limit of this form

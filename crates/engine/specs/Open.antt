@@ -1,6 +1,8 @@
 -- The open partial, as the engine keeps it: the aggregates of its readings in place of the readings.
 -- Assumes nothing.
 use Prim.Native.Nat.{ℕ, _-_, _*_, _+_, _≤_, _<_}
+use mathlib.Core.Bool.{cond}
+use lib.Dec.{eqb}
 use lib.IntN.{ℤ}
 use Rattle.ints.specs.Sizes.{Small}
 use Rattle.window.specs.Queries.{lengthLimit}
@@ -16,6 +18,12 @@ abbrev pub openWith : ℕ → ℤ → Open → Open
 openWith n v Nothing = Nothing
 openWith n v Empty = Holding (firstReading n v)
 openWith n v (Holding a) = Holding (extended v a)
+
+-- ---- queries leave
+
+-- with no query left, what is open is dropped
+abbrev pub openWhile : ℕ → Open → Open
+openWhile left o = cond (eqb left 0) Nothing o
 
 -- ---- what check 2 asks of it
 

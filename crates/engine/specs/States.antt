@@ -2,20 +2,17 @@
 -- Assumes nothing.
 use Prim.Native.Nat.{ℕ, _+_, _≤_}
 use mathlib.Core.Path.{_≡_}
-use mathlib.Core.Bool.{Bool, true, false, cond}
-use lib.Dec.{eqb}
+use mathlib.Core.Bool.{Bool, true, false}
+use mathlib.Core.List.{List}
 use lib.IntN.{ℤ}
 use Rattle.window.specs.declared.refusal.Refusal.the-variants.{TableTooShort, Damaged}
 use Rattle.window.specs.declared.refusal.Verdict.{Verdict}
 use Rattle.window.specs.declared.refusal.Verdict.the-variants.{Refused}
-use Rattle.window.specs.Refusals.{damaged}
 use Rattle.board.specs.Boards.{Within, EmptyEnsures}
-use Rattle.registry.specs.declared.queries.Queries.{Queries}
-use Rattle.registry.specs.Records.{used}
-use Rattle.engine.specs.declared.partial.Open.{Open}
-use Rattle.engine.specs.declared.partial.Open.the-variants.{Nothing}
+use Rattle.registry.specs.Records.{listFits}
+use Rattle.engine.specs.declared.partial.Open.the-variants.{Nothing, Empty}
 use Rattle.engine.specs.declared.state.State.{State}
-use Rattle.engine.specs.Open.{openWith, FitsOpen}
+use Rattle.engine.specs.Open.{openWith, openWhile, FitsOpen}
 
 -- ---- what check 2 asks of the state
 
@@ -26,13 +23,13 @@ pub record Sound (st : State) : Type 0 where
   pub partial : FitsOpen (st .count) (st .board .closed) (st .partial)
 
 -- state and query list pass check 2
-pub record Intact (st : State) (l : Queries) : Type 0 where
-  pub list : damaged (st .count) (l .count) (used l) ≡ false
+pub record Intact (st : State) (l : List ℕ) : Type 0 where
+  pub list : listFits (st .count) (st .registered) l ≡ true
   pub state : Sound st
 
--- what checks 1 and 2 and then the call's own come to, as a verdict: `long` is check 1 on the tables, and `own` what
--- the call's own come to
-pub data Judged (long : Bool) (st : State) (l : Queries) (own : Verdict) : Verdict → Type 0 where
+-- what checks 1 and 2 and then the call's own come to, as a verdict: `long` is check 1 on list and tables, and `own`
+-- what the call's own come to
+pub data Judged (long : Bool) (st : State) (l : List ℕ) (own : Verdict) : Verdict → Type 0 where
   isShort : long ≡ false → Judged long st l own (Refused TableTooShort)
   isDamaged : long ≡ true → (Intact st l → ⊥) → Judged long st l own (Refused Damaged)
   isJudged : long ≡ true → Intact st l → Judged long st l own own
@@ -42,6 +39,7 @@ pub data Judged (long : Bool) (st : State) (l : Queries) (own : Verdict) : Verdi
 -- nothing is counted, open or held, whatever the tables hold
 pub record FreshState (st : State) : Type 0 where
   pub count : st .count ≡ 0
+  pub registered : st .registered ≡ 0
   pub partial : st .partial ≡ Nothing
   pub board : EmptyEnsures (st .board)
 
@@ -49,14 +47,15 @@ pub record FreshState (st : State) : Type 0 where
 
 -- n grows by one, and the reading joins the open partial
 abbrev pub withReading : ℤ → State → State
-withReading v st = record { count = st .count + 1; partial = openWith (st .count) v (st .partial); board = st .board }
+withReading v st =
+    record { count = st .count + 1; registered = st .registered; partial = openWith (st .count) v (st .partial); board = st .board }
 
--- ---- another partial is open
+-- ---- a query joins, a query leaves
 
--- this is open, and the rest is as it was
-abbrev pub withPartial : Open → State → State
-withPartial o st = record { count = st .count; partial = o; board = st .board }
+-- one query more is registered, and an empty partial is open
+abbrev pub withOneMore : State → State
+withOneMore st = record { count = st .count; registered = st .registered + 1; partial = Empty; board = st .board }
 
--- what is open is dropped where no query is left
-abbrev pub openWhileAny : ℕ → State → State
-openWhileAny left st = cond (eqb left 0) (withPartial Nothing st) st
+-- so many queries are left
+abbrev pub leftWith : ℕ → State → State
+leftWith left st = record { count = st .count; registered = left; partial = openWhile left (st .partial); board = st .board }

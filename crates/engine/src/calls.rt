@@ -1,33 +1,29 @@
 // The open calls (document 01, "The calls and where each refuses").
-use crate::checks::judge;
+use crate::checks::all_long;
+use crate::checks::judge_entry;
 use crate::checks::judge_reading;
 use crate::checks::judge_register;
 use crate::checks::judge_withdraw;
-use crate::partial::Open;
 use crate::state::State;
 use board::tables::enough;
 use board::tables::zero;
-use registry::queries::Queries;
-use window::count::COUNT_LIMIT;
+use registry::edit;
+use registry::scan;
 use window::count::Count;
 use window::query::Query;
 use window::refusal::Refusal;
 use window::refusal::Verdict;
 ghost use mathlib.Core.Path.{_≡_};
-ghost use Prim.Native.Nat.{_+_, _<_, _≤_};
-ghost use Rattle.window.specs.Queries.{countLimit};
 ghost use Rattle.window.specs.Calls.{start, register, withdraw, reading, totals};
 ghost use Rattle.board.specs.Tables.{tables};
 ghost use Rattle.engine.specs.Machine.{machine};
 ghost use Rattle.engine.specs.Outcomes.{verdictOutcome, readingOutcome, totalsOutcome};
 ghost use Rattle.engine.specs.Contracts.{StartEnsures, Ensures, ReadingEnsures};
 
-// What a start, a registration or a withdrawal comes to, with state and query list handed back: equal where it is
-// refused.
+// What a start, a registration or a withdrawal comes to, with the state handed back: equal where it is refused.
 pub struct Reply {
     pub verdict: Verdict,
     pub state: State,
-    pub queries: Queries,
 }
 
 // What a reading comes to: how many answers were written, or a refusal.
@@ -49,15 +45,19 @@ pub enum TotalsReply {
 }
 
 // A refused call hands back what it was given.
-fn refused(state: State, queries: Queries, refusal: Refusal) -> Reply
-    ensures { λ r. ⌜ r ≡ record { verdict = Verdict.Refused refusal; state = state; queries = queries } ⌝ }
+fn refused(state: State, refusal: Refusal) -> Reply
+    ensures { λ r. ⌜ r ≡ record { verdict = Verdict.Refused refusal; state = state } ⌝ }
 {
     let verdict = Verdict::Refused(refusal);
-    Reply {
-        verdict,
-        state,
-        queries,
-    }
+    Reply { verdict, state }
+}
+
+// An accepted one hands back the state after it.
+fn accepted(state: State) -> Reply
+    ensures { λ r. ⌜ r ≡ record { verdict = Verdict.Passed; state = state } ⌝ }
+{
+    let verdict = Verdict::Passed;
+    Reply { verdict, state }
 }
 
 // So does a refused reading.
@@ -76,17 +76,10 @@ fn accepted_reading(state: State, answers: usize) -> ReadingReply
     ReadingReply { outcome, state }
 }
 
-// The count after n. The greatest count has none, and stays; a reading is refused there.
-fn next_count(n: Count) -> Count
-    ensures { λ r. ⌜ (n ≤ r) × (n < countLimit → r ≡ n + 1) ⌝ }
-{
-    if n < COUNT_LIMIT { n + 1 } else { n }
-}
-
-// Start: everything empty. The first 4,096 places of each table become 0.
+// Start: everything empty. The query list and the first 4,096 places of each table become 0.
 pub fn start(
     state: State,
-    queries: Queries,
+    list: &mut [u32],
     starts: &mut [Count],
     sums: &mut [i64],
     max_starts: &mut [Count],
@@ -95,11 +88,11 @@ pub fn start(
     min_values: &mut [i32],
 ) -> Reply
     ensures { λ r. ⌜ StartEnsures
-        (machine state queries (tables (now (starts .entry)) (now (sums .entry)) (now («max_starts» .entry)) (now («max_values» .entry)) (now («min_starts» .entry)) (now («min_values» .entry))))
+        (machine state (now (list .entry)) (tables (now (starts .entry)) (now (sums .entry)) (now («max_starts» .entry)) (now («max_values» .entry)) (now («min_starts» .entry)) (now («min_values» .entry))))
         (verdictOutcome (r .verdict))
-        (machine (r .state) (r .queries) (tables (now (starts .exit)) (now (sums .exit)) (now («max_starts» .exit)) (now («max_values» .exit)) (now («min_starts» .exit)) (now («min_values» .exit)))) ⌝ }
+        (machine (r .state) (now (list .exit)) (tables (now (starts .exit)) (now (sums .exit)) (now («max_starts» .exit)) (now («max_values» .exit)) (now («min_starts» .exit)) (now («min_values» .exit)))) ⌝ }
 {
-    let long = enough(
+    let tables = enough(
         starts.len(),
         sums.len(),
         max_starts.len(),
@@ -107,23 +100,19 @@ pub fn start(
         min_starts.len(),
         min_values.len(),
     );
+    let long = all_long(list.len(), tables);
     if !long {
-        return refused(state, queries, Refusal::TableTooShort);
+        return refused(state, Refusal::TableTooShort);
     }
     zero(starts, sums, max_starts, max_values, min_starts, min_values);
-    let state = State::fresh();
-    let queries = Queries::empty();
-    Reply {
-        verdict: Verdict::Passed,
-        state,
-        queries,
-    }
+    edit::clear(list, 0);
+    accepted(State::fresh())
 }
 
 // Register: the query joins the list with g = n. An open partial that holds a reading closes first.
 pub fn register(
     state: State,
-    queries: Queries,
+    list: &mut [u32],
     starts: &mut [Count],
     sums: &mut [i64],
     max_starts: &mut [Count],
@@ -136,11 +125,11 @@ pub fn register(
     slide: u32,
 ) -> Reply
     ensures { λ r. ⌜ Ensures (register number kind range slide)
-        (machine state queries (tables (now (starts .entry)) (now (sums .entry)) (now («max_starts» .entry)) (now («max_values» .entry)) (now («min_starts» .entry)) (now («min_values» .entry))))
+        (machine state (now (list .entry)) (tables (now (starts .entry)) (now (sums .entry)) (now («max_starts» .entry)) (now («max_values» .entry)) (now («min_starts» .entry)) (now («min_values» .entry))))
         (verdictOutcome (r .verdict))
-        (machine (r .state) (r .queries) (tables (now (starts .exit)) (now (sums .exit)) (now («max_starts» .exit)) (now («max_values» .exit)) (now («min_starts» .exit)) (now («min_values» .exit)))) ⌝ }
+        (machine (r .state) (now (list .exit)) (tables (now (starts .exit)) (now (sums .exit)) (now («max_starts» .exit)) (now («max_values» .exit)) (now («min_starts» .exit)) (now («min_values» .exit)))) ⌝ }
 {
-    let long = enough(
+    let tables = enough(
         starts.len(),
         sums.len(),
         max_starts.len(),
@@ -148,6 +137,7 @@ pub fn register(
         min_starts.len(),
         min_values.len(),
     );
+    let long = all_long(list.len(), tables);
     let q = Query {
         number,
         kind,
@@ -155,10 +145,10 @@ pub fn register(
         slide,
         origin: state.count,
     };
-    if let Verdict::Refused(refusal) = judge_register(long, state, queries, q) {
-        return refused(state, queries, refusal);
+    if let Verdict::Refused(refusal) = judge_register(long, state, list, q) {
+        return refused(state, refusal);
     }
-    let horizon = queries.horizon(state.count);
+    let horizon = scan::horizon(list, state.registered, state.count);
     let closed = state.close_open(
         horizon,
         starts,
@@ -168,19 +158,14 @@ pub fn register(
         min_starts,
         min_values,
     );
-    let after = closed.with_partial(Open::Empty);
-    let joined = queries.joined_by(q);
-    Reply {
-        verdict: Verdict::Passed,
-        state: after,
-        queries: joined,
-    }
+    edit::append(list, state.registered, q);
+    accepted(closed.with_one_more())
 }
 
 // Withdraw: the query leaves, the others keep their order. With none left, what is open is dropped unclosed.
 pub fn withdraw(
     state: State,
-    queries: Queries,
+    list: &mut [u32],
     starts: &[Count],
     sums: &[i64],
     max_starts: &[Count],
@@ -190,11 +175,11 @@ pub fn withdraw(
     number: u32,
 ) -> Reply
     ensures { λ r. ⌜ Ensures (withdraw number)
-        (machine state queries (tables (now (starts .entry)) (now (sums .entry)) (now («max_starts» .entry)) (now («max_values» .entry)) (now («min_starts» .entry)) (now («min_values» .entry))))
+        (machine state (now (list .entry)) (tables (now (starts .entry)) (now (sums .entry)) (now («max_starts» .entry)) (now («max_values» .entry)) (now («min_starts» .entry)) (now («min_values» .entry))))
         (verdictOutcome (r .verdict))
-        (machine (r .state) (r .queries) (tables (now (starts .entry)) (now (sums .entry)) (now («max_starts» .entry)) (now («max_values» .entry)) (now («min_starts» .entry)) (now («min_values» .entry)))) ⌝ }
+        (machine (r .state) (now (list .exit)) (tables (now (starts .entry)) (now (sums .entry)) (now («max_starts» .entry)) (now («max_values» .entry)) (now («min_starts» .entry)) (now («min_values» .entry)))) ⌝ }
 {
-    let long = enough(
+    let tables = enough(
         starts.len(),
         sums.len(),
         max_starts.len(),
@@ -202,22 +187,18 @@ pub fn withdraw(
         min_starts.len(),
         min_values.len(),
     );
-    if let Verdict::Refused(refusal) = judge_withdraw(long, state, queries, number) {
-        return refused(state, queries, refusal);
+    let long = all_long(list.len(), tables);
+    if let Verdict::Refused(refusal) = judge_withdraw(long, state, list, number) {
+        return refused(state, refusal);
     }
-    let rest = queries.left_by(number);
-    let after = state.open_while_any(rest.count);
-    Reply {
-        verdict: Verdict::Passed,
-        state: after,
-        queries: rest,
-    }
+    let left = edit::withdraw(list, state.registered, number);
+    accepted(state.left_with(left))
 }
 
 // Totals: n, P, M and N, changing nothing.
 pub fn totals(
     state: State,
-    queries: Queries,
+    list: &[u32],
     starts: &[Count],
     sums: &[i64],
     max_starts: &[Count],
@@ -226,11 +207,11 @@ pub fn totals(
     min_values: &[i32],
 ) -> TotalsReply
     ensures { λ r. ⌜ Ensures totals
-        (machine state queries (tables (now (starts .entry)) (now (sums .entry)) (now («max_starts» .entry)) (now («max_values» .entry)) (now («min_starts» .entry)) (now («min_values» .entry))))
+        (machine state (now (list .entry)) (tables (now (starts .entry)) (now (sums .entry)) (now («max_starts» .entry)) (now («max_values» .entry)) (now («min_starts» .entry)) (now («min_values» .entry))))
         (totalsOutcome r)
-        (machine state queries (tables (now (starts .entry)) (now (sums .entry)) (now («max_starts» .entry)) (now («max_values» .entry)) (now («min_starts» .entry)) (now («min_values» .entry)))) ⌝ }
+        (machine state (now (list .entry)) (tables (now (starts .entry)) (now (sums .entry)) (now («max_starts» .entry)) (now («max_values» .entry)) (now («min_starts» .entry)) (now («min_values» .entry)))) ⌝ }
 {
-    let long = enough(
+    let tables = enough(
         starts.len(),
         sums.len(),
         max_starts.len(),
@@ -238,8 +219,8 @@ pub fn totals(
         min_starts.len(),
         min_values.len(),
     );
-    let broken = queries.damaged(state.count);
-    if let Verdict::Refused(refusal) = judge(long, broken, state) {
+    let long = all_long(list.len(), tables);
+    if let Verdict::Refused(refusal) = judge_entry(long, state, list) {
         return TotalsReply::Refused(refusal);
     }
     let board = state.board;
@@ -257,7 +238,7 @@ pub fn totals(
 // due queries are answered.
 pub fn reading(
     state: State,
-    queries: Queries,
+    list: &[u32],
     starts: &mut [Count],
     sums: &mut [i64],
     max_starts: &mut [Count],
@@ -268,11 +249,11 @@ pub fn reading(
     value: i32,
 ) -> ReadingReply
     ensures { λ r. ⌜ ReadingEnsures value (now (answers .entry)) (now (answers .exit))
-        (machine state queries (tables (now (starts .entry)) (now (sums .entry)) (now («max_starts» .entry)) (now («max_values» .entry)) (now («min_starts» .entry)) (now («min_values» .entry))))
+        (machine state (now (list .entry)) (tables (now (starts .entry)) (now (sums .entry)) (now («max_starts» .entry)) (now («max_values» .entry)) (now («min_starts» .entry)) (now («min_values» .entry))))
         (readingOutcome (r .outcome) (now (answers .exit)))
-        (machine (r .state) queries (tables (now (starts .exit)) (now (sums .exit)) (now («max_starts» .exit)) (now («max_values» .exit)) (now («min_starts» .exit)) (now («min_values» .exit)))) ⌝ }
+        (machine (r .state) (now (list .entry)) (tables (now (starts .exit)) (now (sums .exit)) (now («max_starts» .exit)) (now («max_values» .exit)) (now («min_starts» .exit)) (now («min_values» .exit)))) ⌝ }
 {
-    let long = enough(
+    let tables = enough(
         starts.len(),
         sums.len(),
         max_starts.len(),
@@ -280,22 +261,17 @@ pub fn reading(
         min_starts.len(),
         min_values.len(),
     );
-    let scan = queries.scan(state.count, next_count(state.count));
-    if let Verdict::Refused(refusal) = judge_reading(
-        long,
-        scan.damaged,
-        state,
-        queries,
-        answers.len(),
-    ) {
+    let long = all_long(list.len(), tables);
+    if let Verdict::Refused(refusal) = judge_reading(long, state, list, answers.len()) {
         return refused_reading(state, refusal);
     }
     let taken = state.with_reading(value);
-    if !scan.edge {
+    if !scan::any_edge(list, taken.registered, taken.count) {
         return accepted_reading(taken, 0);
     }
+    let horizon = scan::horizon(list, taken.registered, taken.count);
     let closed = taken.close_open(
-        scan.horizon,
+        horizon,
         starts,
         sums,
         max_starts,
@@ -304,7 +280,8 @@ pub fn reading(
         min_values,
     );
     let answers = closed.answer_due(
-        queries,
+        list,
+        horizon,
         starts,
         sums,
         max_starts,

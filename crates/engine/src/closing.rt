@@ -43,6 +43,7 @@ impl State {
                 );
                 State {
                     count: self.count,
+                    registered: self.registered,
                     partial: Open::Empty,
                     board,
                 }

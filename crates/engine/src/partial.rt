@@ -8,7 +8,7 @@ ghost use mathlib.Core.Path.{_≡_};
 ghost use mathlib.Core.Bool.{true};
 ghost use Rattle.ints.specs.Sizes.{Small};
 ghost use Rattle.deque.specs.Sums.{sumLimit};
-ghost use Rattle.engine.specs.Open.{openWith, FitsAggregate, FitsOpen};
+ghost use Rattle.engine.specs.Open.{openWith, openWhile, FitsAggregate, FitsOpen};
 
 // The greatest size of a reading: 2^31.
 pub const READING_SIZE: u64 = 2_147_483_648;
@@ -51,6 +51,16 @@ impl Open {
             Open::Empty => Open::Holding(Aggregate::first(n, value)),
             Open::Holding(a) => Open::Holding(a.extended(value)),
         }
+    }
+
+    // What stays open with so many queries left: with none, nothing.
+    pub(crate) fn while_any(self, left: usize) -> Open
+        ensures { λ r. ⌜ r ≡ openWhile left self ⌝ }
+    {
+        if left == 0 {
+            return Open::Nothing;
+        }
+        self
     }
 
     // Whether this can be open, with n readings taken and `closed` partials closed.

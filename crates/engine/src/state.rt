@@ -6,12 +6,15 @@ ghost use mathlib.Core.Path.{_≡_};
 ghost use mathlib.Core.Bool.{true};
 ghost use Prim.Native.Nat.{_<_};
 ghost use Rattle.window.specs.Queries.{countLimit};
-ghost use Rattle.engine.specs.States.{Sound, withReading, withPartial, openWhileAny, FreshState};
+ghost use Rattle.registry.specs.Records.{recordLimit};
+ghost use Rattle.engine.specs.States.{Sound, withReading, withOneMore, leftWith, FreshState};
 
 // What the engine knows between two calls, beside the query list and the lent tables.
 pub struct State {
     // Document 01's n: the count of accepted readings since the start.
     pub count: Count,
+    // How many queries are registered: the used records of the query list.
+    pub registered: usize,
     // The open partial.
     pub partial: Open,
     // The closed partials, with P, M and N.
@@ -26,6 +29,7 @@ impl State {
         let board = Board::empty();
         State {
             count: 0,
+            registered: 0,
             partial: Open::Nothing,
             board,
         }
@@ -56,30 +60,38 @@ impl State {
         let board = self.board;
         State {
             count: self.count + 1,
+            registered: self.registered,
             partial,
             board,
         }
     }
 
-    // With another partial open.
-    pub(crate) fn with_partial(self, partial: Open) -> State
-        ensures { λ r. ⌜ r ≡ withPartial partial self ⌝ }
+    // With one query more, and an empty partial open.
+    pub(crate) fn with_one_more(self) -> State
+        requires { ⌜ self .registered < recordLimit ⌝ }
+        ensures { λ r. ⌜ r ≡ withOneMore self ⌝ }
     {
         let board = self.board;
         State {
             count: self.count,
-            partial,
+            registered: self.registered + 1,
+            partial: Open::Empty,
             board,
         }
     }
 
-    // After a withdrawal that left so many queries: with none left, what is open is dropped unclosed.
-    pub(crate) fn open_while_any(self, left: usize) -> State
-        ensures { λ r. ⌜ r ≡ openWhileAny left self ⌝ }
+    // With so many queries left: with none, what is open is dropped unclosed.
+    pub(crate) fn left_with(self, left: usize) -> State
+        ensures { λ r. ⌜ r ≡ leftWith left self ⌝ }
     {
-        if left == 0 {
-            return self.with_partial(Open::Nothing);
+        let before = self.partial;
+        let partial = before.while_any(left);
+        let board = self.board;
+        State {
+            count: self.count,
+            registered: left,
+            partial,
+            board,
         }
-        self
     }
 }

@@ -2,17 +2,21 @@
 -- Assumes nothing.
 use mathlib.Core.Path.{_≡_, ap, _∙_}
 use mathlib.Core.Bool.{true}
+use borrow.Author.Tests.{leb-true}
 use lib.Dec.{leb}
+use lib.ListN.{length, take}
 use Rattle.window.specs.Calls.{Call, start, register, withdraw, reading, totals, Outcome}
+use Rattle.window.specs.Model.{reached}
 use Rattle.window.proofs.Lists.{and-left, and-right}
 use Rattle.registry.specs.Records.{recordLimit}
 use Rattle.engine.specs.Contracts.{Promise}
 use Rattle.engine.specs.Demand3 as below
-use Rattle.engine.specs.Demand3.{machineLong}
-use Rattle.engine.proofs.Carrying.{carried-demand-3, carried-from-start, carried-live, carried-never-damaged}
+use Rattle.engine.specs.Machine.{machineLong}
+use Rattle.engine.proofs.Carrying.{carried-run, carried-demand-3, carried-from-start, carried-live, carried-never-damaged}
 use Rattle.lent.specs.Lent.{Lent, listLong, lentLong, lentMachine}
 use Rattle.lent.specs.Contracts.{OnLent}
-use Rattle.lent.specs.Demand3.{Performs, Demand3, FromStart, BoardLive, NeverDamaged}
+use Rattle.lent.specs.Demand3.{Performs, Demand3, InRecords, FromStart, BoardLive, NeverDamaged}
+use Rattle.lent.proofs.Listing.{records-are, long-below}
 
 -- the list is long enough
 abbrev ListLong : Lent → Type 0
@@ -20,7 +24,7 @@ ListLong m = listLong m ≡ true
 
 -- so it is where check 1 passes, and the six tables are
 opens : (m : Lent) → lentLong m ≡ true → ListLong m × (machineLong (lentMachine m) ≡ true)
-opens m l = (and-left (listLong m) _ l, and-right (listLong m) _ l)
+opens m l = (and-left (listLong m) _ l, long-below (m .state) (take recordLimit (m .records)) (m .tables) ∙ and-right (listLong m) _ l)
 
 -- it stays so
 still-long : {promise : Promise} {m m′ : Lent} {o : Outcome} → OnLent promise m o m′ → ListLong m → ListLong m′
@@ -44,6 +48,12 @@ demand-3 = carried-demand-3 lentMachine lentLong Performs ListLong opens perform
 -- what came from a start represents the model's state
 pub from-start : FromStart
 from-start = carried-from-start lentMachine lentLong Performs ListLong opens performs
+
+-- so its first 32 records are the model's queries, and unused ones
+pub in-records : InRecords
+in-records fresh f calls outcomes m p =
+    let l = carried-run lentMachine lentLong Performs ListLong opens performs fresh f calls outcomes m p .2 in
+    records-are (reached calls) (m .state) (m .records) (m .tables) (leb-true recordLimit (length (m .records)) l) (from-start fresh f calls outcomes m p)
 
 -- so its tables hold what is live, and what stands of it
 pub from-start-live : BoardLive

@@ -1,5 +1,5 @@
-pub mod Lending
 pub mod Listing
+pub mod Lending
 pub mod Copying
 pub mod Agreement
 pub mod Rows

@@ -28,5 +28,4 @@ pub record ReadingOnLent (v : ℤ) (before after : List ℤ) (m : Lent) (o : Out
   pub onLent : OnLent (ReadingEnsures v before after) m o m′
   pub places : after ≡ placesAfter o before
   -- no query joins or leaves
-  pub registered : m′ .engine .registered ≡ m .engine .registered
   pub records : m′ .records ≡ m .records

@@ -2,41 +2,54 @@
 -- Assumes nothing.
 use Prim.Native.Nat.{ℕ, _<_, _≤_}
 use mathlib.Core.List.{List}
+use lib.ListN.{take, replicate}
 use Rattle.window.specs.declared.query.Query.{Query}
 use Rattle.window.specs.declared.refusal.Refusal.the-variants.{TableTooShort}
 use Rattle.window.specs.declared.refusal.Verdict.the-variants.{Refused}
 use Rattle.window.specs.Calls.{Outcome, accepted, refused}
-use Rattle.registry.specs.Records.{recordLimit}
+use Rattle.registry.specs.Records.{recordLimit, unused}
+use Rattle.records.specs.LentList.{overwritten}
 use Rattle.board.specs.Tables.{Tables}
 use Rattle.engine.specs.declared.calls.Reply.{Reply}
+use Rattle.engine.specs.declared.state.State.{State}
+use Rattle.engine.specs.Machine.{machine}
 use Rattle.engine.specs.Outcomes.{verdictOutcome}
 use Rattle.engine.specs.Contracts.{Promise}
-use Rattle.lent.specs.declared.held.Engine.{Engine}
 use Rattle.lent.specs.declared.held.OnCopy.{OnCopy}
 use Rattle.lent.specs.Lent.{machineWith}
 
--- how many records are put back: all of them, and none after a refusal
-abbrev pub recordsWritten : Outcome → ℕ
-recordsWritten (accepted ns answers) = recordLimit
-recordsWritten (refused k) = 0
-
--- a call on the copy `list` of a lent list of so many places: too few, or what the layer below promises
-pub data Copied (promise : Promise) (places : ℕ) (e : Engine) (list : List Query) (t : Tables) : Outcome → Engine → List Query → Tables → Type 0 where
-  tooShort : places < recordLimit → Copied promise places e list t (refused 1) e list t
-  performed : {o : Outcome} {e′ : Engine} {list′ : List Query} {t′ : Tables} → recordLimit ≤ places → promise (machineWith e list t) o (machineWith e′ list′ t′)
-      → Copied promise places e list t o e′ list′ t′
+-- a call on the copy `list` of a lent list of so many places: too few, or what the layer below promises, with whatever
+-- list of numbers it leaves
+pub data Copied (promise : Promise) (places : ℕ) (st : State) (list : List Query) (t : Tables) : Outcome → State → Tables → Type 0 where
+  tooShort : places < recordLimit → Copied promise places st list t (refused 1) st t
+  performed : {o : Outcome} {st′ : State} {l′ : List ℕ} {t′ : Tables} → recordLimit ≤ places → promise (machineWith st list t) o (machine st′ l′ t′)
+      → Copied promise places st list t o st′ t′
 
 -- ---- what the calls on a copy hand back
 
--- a lent list that is too short: refused with 1, and nothing is put back
-abbrev pub shortOf : Engine → List Query → OnCopy
-shortOf e list = record { reply = record { verdict = Refused TableTooShort; engine = e }; list = list; write = 0 }
+-- a lent list that is too short: refused with 1
+abbrev pub shortOf : State → Reply
+shortOf st = record { verdict = Refused TableTooShort; state = st }
 
--- what the layer below replied, with its list apart
-abbrev pub apart : Reply → OnCopy
-apart reply =
-    record {
-      reply = record { verdict = reply .verdict; engine = record { state = reply .state; registered = reply .queries .count } };
-      list = reply .queries .records;
-      write = recordsWritten (verdictOutcome (reply .verdict));
-    }
+-- the first number after an accepted call, the second after a refused one
+abbrev pub byOutcome : Outcome → ℕ → ℕ → ℕ
+byOutcome (accepted ns answers) passed refusal = passed
+byOutcome (refused k) passed refusal = refusal
+
+-- what the layer below replied, with what is to be done to the lent list
+abbrev pub onCopy : Reply → ℕ → ℕ → Query → OnCopy
+onCopy reply passed refusal q = record { reply = reply; count = byOutcome (verdictOutcome (reply .verdict)) passed refusal; query = q }
+
+-- ---- what is done to the lent list
+
+-- the first k of its first 32 records become unused
+abbrev pub emptied : ℕ → List Query → List Query
+emptied k xs = overwritten (take k (replicate recordLimit unused)) xs
+
+-- the query that joins at n
+abbrev pub joining : (number kind range slide n : ℕ) → Query
+joining number kind range slide n = record { number = number; kind = kind; range = range; slide = slide; origin = n }
+
+-- a query that leaves, of which only its number is looked at
+abbrev pub leaving : ℕ → Query
+leaving number = record { number = number; kind = 0; range = 0; slide = 0; origin = 0 }

@@ -1,81 +1,60 @@
-// The calls on a copy of the query list: check 1 on the lent list's length, and then the engine's call.
-use crate::held::Engine;
+// The calls on a copy of the query list: check 1 on the lent list's length, and then the engine's call, which is lent
+// the copy as numbers.
 use crate::held::OnCopy;
-use crate::held::ReadingReply;
-use crate::held::Reply;
 use engine::calls;
 use engine::calls::Answered;
+use engine::calls::ReadingReply;
+use engine::calls::Reply;
 use engine::calls::TotalsReply;
-use registry::queries::Queries;
-use registry::queries::RECORDS;
+use engine::state::State;
+use records::laid::laid;
+use registry::list::RECORDS;
 use window::count::Count;
 use window::query::Query;
 use window::refusal::Refusal;
 use window::refusal::Verdict;
 ghost use mathlib.Core.Path.{_≡_};
 ghost use Rattle.window.specs.Calls.{register, withdraw, totals};
+ghost use Rattle.registry.specs.Records.{recordLimit, unused};
 ghost use Rattle.board.specs.Tables.{tables};
 ghost use Rattle.engine.specs.Outcomes.{verdictOutcome, readingOutcome, totalsOutcome};
 ghost use Rattle.engine.specs.Contracts.{StartEnsures, Ensures, ReadingEnsures, placesAfter};
-ghost use Rattle.lent.specs.Lent.{listOf};
-ghost use Rattle.lent.specs.Copied.{recordsWritten, Copied, shortOf, apart};
+ghost use Rattle.lent.specs.Copied.{byOutcome, Copied, shortOf, onCopy, joining, leaving};
 
-// The query list of the layer below.
-fn list_of(engine: Engine, list: [Query; 32]) -> Queries
-    ensures { λ r. ⌜ r ≡ listOf engine list ⌝ }
-{
-    Queries {
-        count: engine.registered,
-        records: list,
-    }
-}
-
-// A lent list that is too short: nothing is put back.
-fn too_short(engine: Engine, list: [Query; 32]) -> OnCopy
-    ensures { λ r. ⌜ r ≡ shortOf engine list ⌝ }
+// A lent list that is too short.
+fn too_short(state: State) -> Reply
+    ensures { λ r. ⌜ r ≡ shortOf state ⌝ }
 {
     let verdict = Verdict::Refused(Refusal::TableTooShort);
-    let reply = Reply { verdict, engine };
-    OnCopy {
-        reply,
-        list,
-        write: 0,
-    }
+    Reply { verdict, state }
 }
 
-// How many records are put back after a call with this verdict: all of them, or none.
-fn records_written(verdict: Verdict) -> usize
-    ensures { λ r. ⌜ r ≡ recordsWritten (verdictOutcome verdict) ⌝ }
+// One number where a call is accepted, and another where it is refused.
+fn by_verdict(verdict: Verdict, passed: usize, refused: usize) -> usize
+    ensures { λ r. ⌜ r ≡ byOutcome (verdictOutcome verdict) passed refused ⌝ }
 {
     match verdict {
-        Verdict::Passed => RECORDS,
-        Verdict::Refused(_) => 0,
+        Verdict::Passed => passed,
+        Verdict::Refused(_) => refused,
     }
 }
 
-// What the engine's call came to, with the list apart.
-fn taken_apart(reply: calls::Reply) -> OnCopy
-    ensures { λ r. ⌜ r ≡ apart reply ⌝ }
+// What a call came to, and what is to be done to the lent list: with so many records where it is accepted, and with so
+// many that nothing changes where it is refused.
+fn on_copy(reply: Reply, passed: usize, refused: usize, query: Query) -> OnCopy
+    ensures { λ r. ⌜ r ≡ onCopy reply passed refused query ⌝ }
 {
     let verdict = reply.verdict;
-    let state = reply.state;
-    let queries = reply.queries;
-    let list = queries.records;
-    let engine = Engine {
-        state,
-        registered: queries.count,
-    };
-    let reply = Reply { verdict, engine };
     OnCopy {
         reply,
-        list,
-        write: records_written(verdict),
+        count: by_verdict(verdict, passed, refused),
+        query,
     }
 }
 
-// A start, on the copy.
+// A start, on the copy: all 32 records are to be unused.
 pub(crate) fn start(
-    engine: Engine,
+    state: State,
     list: [Query; 32],
     places: usize,
     starts: &mut [Count],
@@ -85,20 +64,26 @@ pub(crate) fn start(
     min_starts: &mut [Count],
     min_values: &mut [i32],
 ) -> OnCopy
-    ensures { λ r. ⌜ Copied StartEnsures places engine list
+    ensures { λ r. ⌜ Copied StartEnsures places state list
         (tables (now (starts .entry)) (now (sums .entry)) (now («max_starts» .entry)) (now («max_values» .entry)) (now («min_starts» .entry)) (now («min_values» .entry)))
-        (verdictOutcome (r .reply .verdict)) (r .reply .engine) (r .list)
+        (verdictOutcome (r .reply .verdict)) (r .reply .state)
         (tables (now (starts .exit)) (now (sums .exit)) (now («max_starts» .exit)) (now («max_values» .exit)) (now («min_starts» .exit)) (now («min_values» .exit)))
-        × (r .write ≡ recordsWritten (verdictOutcome (r .reply .verdict))) ⌝ }
+        × ((r .count ≡ byOutcome (verdictOutcome (r .reply .verdict)) recordLimit 0) × (r .query ≡ unused)) ⌝ }
 {
+    let query = Query {
+        number: 0,
+        kind: 0,
+        range: 0,
+        slide: 0,
+        origin: 0,
+    };
     if places < RECORDS {
-        return too_short(engine, list);
+        return on_copy(too_short(state), RECORDS, 0, query);
     }
-    let state = engine.state;
-    let queries = list_of(engine, list);
+    let mut numbers = laid(list, state.registered);
     let reply = calls::start(
         state,
-        queries,
+        &mut numbers,
         starts,
         sums,
         max_starts,
@@ -106,12 +91,12 @@ pub(crate) fn start(
         min_starts,
         min_values,
     );
-    taken_apart(reply)
+    on_copy(reply, RECORDS, 0, query)
 }
 
-// A registration, on the copy.
+// A registration, on the copy: the query is to join behind the used records. Behind 32 there is no place.
 pub(crate) fn register(
-    engine: Engine,
+    state: State,
     list: [Query; 32],
     places: usize,
     starts: &mut [Count],
@@ -125,20 +110,26 @@ pub(crate) fn register(
     range: u32,
     slide: u32,
 ) -> OnCopy
-    ensures { λ r. ⌜ Copied (Ensures (register number kind range slide)) places engine list
+    ensures { λ r. ⌜ Copied (Ensures (register number kind range slide)) places state list
         (tables (now (starts .entry)) (now (sums .entry)) (now («max_starts» .entry)) (now («max_values» .entry)) (now («min_starts» .entry)) (now («min_values» .entry)))
-        (verdictOutcome (r .reply .verdict)) (r .reply .engine) (r .list)
+        (verdictOutcome (r .reply .verdict)) (r .reply .state)
         (tables (now (starts .exit)) (now (sums .exit)) (now («max_starts» .exit)) (now («max_values» .exit)) (now («min_starts» .exit)) (now («min_values» .exit)))
-        × (r .write ≡ recordsWritten (verdictOutcome (r .reply .verdict))) ⌝ }
+        × ((r .count ≡ byOutcome (verdictOutcome (r .reply .verdict)) (state .registered) recordLimit) × (r .query ≡ joining number kind range slide (state .count))) ⌝ }
 {
+    let query = Query {
+        number,
+        kind,
+        range,
+        slide,
+        origin: state.count,
+    };
     if places < RECORDS {
-        return too_short(engine, list);
+        return on_copy(too_short(state), state.registered, RECORDS, query);
     }
-    let state = engine.state;
-    let queries = list_of(engine, list);
+    let mut numbers = laid(list, state.registered);
     let reply = calls::register(
         state,
-        queries,
+        &mut numbers,
         starts,
         sums,
         max_starts,
@@ -150,12 +141,12 @@ pub(crate) fn register(
         range,
         slide,
     );
-    taken_apart(reply)
+    on_copy(reply, state.registered, RECORDS, query)
 }
 
-// A withdrawal, on the copy.
+// A withdrawal, on the copy: what has the number is to leave the used records. Of no records none leaves.
 pub(crate) fn withdraw(
-    engine: Engine,
+    state: State,
     list: [Query; 32],
     places: usize,
     starts: &[Count],
@@ -166,20 +157,26 @@ pub(crate) fn withdraw(
     min_values: &[i32],
     number: u32,
 ) -> OnCopy
-    ensures { λ r. ⌜ Copied (Ensures (withdraw number)) places engine list
+    ensures { λ r. ⌜ Copied (Ensures (withdraw number)) places state list
         (tables (now (starts .entry)) (now (sums .entry)) (now («max_starts» .entry)) (now («max_values» .entry)) (now («min_starts» .entry)) (now («min_values» .entry)))
-        (verdictOutcome (r .reply .verdict)) (r .reply .engine) (r .list)
+        (verdictOutcome (r .reply .verdict)) (r .reply .state)
         (tables (now (starts .entry)) (now (sums .entry)) (now («max_starts» .entry)) (now («max_values» .entry)) (now («min_starts» .entry)) (now («min_values» .entry)))
-        × (r .write ≡ recordsWritten (verdictOutcome (r .reply .verdict))) ⌝ }
+        × ((r .count ≡ byOutcome (verdictOutcome (r .reply .verdict)) (state .registered) 0) × (r .query ≡ leaving number)) ⌝ }
 {
+    let query = Query {
+        number,
+        kind: 0,
+        range: 0,
+        slide: 0,
+        origin: 0,
+    };
     if places < RECORDS {
-        return too_short(engine, list);
+        return on_copy(too_short(state), state.registered, 0, query);
     }
-    let state = engine.state;
-    let queries = list_of(engine, list);
+    let mut numbers = laid(list, state.registered);
     let reply = calls::withdraw(
         state,
-        queries,
+        &mut numbers,
         starts,
         sums,
         max_starts,
@@ -188,12 +185,12 @@ pub(crate) fn withdraw(
         min_values,
         number,
     );
-    taken_apart(reply)
+    on_copy(reply, state.registered, 0, query)
 }
 
 // A reading, on the copy: no record changes.
 pub(crate) fn reading(
-    engine: Engine,
+    state: State,
     list: [Query; 32],
     places: usize,
     starts: &mut [Count],
@@ -205,21 +202,20 @@ pub(crate) fn reading(
     answers: &mut [i64],
     value: i32,
 ) -> ReadingReply
-    ensures { λ r. ⌜ Copied (ReadingEnsures value (now (answers .entry)) (now (answers .exit))) places engine list
+    ensures { λ r. ⌜ Copied (ReadingEnsures value (now (answers .entry)) (now (answers .exit))) places state list
         (tables (now (starts .entry)) (now (sums .entry)) (now («max_starts» .entry)) (now («max_values» .entry)) (now («min_starts» .entry)) (now («min_values» .entry)))
-        (readingOutcome (r .outcome) (now (answers .exit))) (r .engine) list
+        (readingOutcome (r .outcome) (now (answers .exit))) (r .state)
         (tables (now (starts .exit)) (now (sums .exit)) (now («max_starts» .exit)) (now («max_values» .exit)) (now («min_starts» .exit)) (now («min_values» .exit)))
-        × ((now (answers .exit) ≡ placesAfter (readingOutcome (r .outcome) (now (answers .exit))) (now (answers .entry))) × (r .engine .registered ≡ engine .registered)) ⌝ }
+        × (now (answers .exit) ≡ placesAfter (readingOutcome (r .outcome) (now (answers .exit))) (now (answers .entry))) ⌝ }
 {
     if places < RECORDS {
         let outcome = Answered::Refused(Refusal::TableTooShort);
-        return ReadingReply { outcome, engine };
+        return ReadingReply { outcome, state };
     }
-    let state = engine.state;
-    let queries = list_of(engine, list);
-    let reply = calls::reading(
+    let numbers = laid(list, state.registered);
+    calls::reading(
         state,
-        queries,
+        &numbers,
         starts,
         sums,
         max_starts,
@@ -228,19 +224,12 @@ pub(crate) fn reading(
         min_values,
         answers,
         value,
-    );
-    let outcome = reply.outcome;
-    let state = reply.state;
-    let engine = Engine {
-        state,
-        registered: engine.registered,
-    };
-    ReadingReply { outcome, engine }
+    )
 }
 
 // Totals, on the copy: nothing changes.
 pub(crate) fn totals(
-    engine: Engine,
+    state: State,
     list: [Query; 32],
     places: usize,
     starts: &[Count],
@@ -250,19 +239,18 @@ pub(crate) fn totals(
     min_starts: &[Count],
     min_values: &[i32],
 ) -> TotalsReply
-    ensures { λ r. ⌜ Copied (Ensures totals) places engine list
+    ensures { λ r. ⌜ Copied (Ensures totals) places state list
         (tables (now (starts .entry)) (now (sums .entry)) (now («max_starts» .entry)) (now («max_values» .entry)) (now («min_starts» .entry)) (now («min_values» .entry)))
-        (totalsOutcome r) engine list
+        (totalsOutcome r) state
         (tables (now (starts .entry)) (now (sums .entry)) (now («max_starts» .entry)) (now («max_values» .entry)) (now («min_starts» .entry)) (now («min_values» .entry))) ⌝ }
 {
     if places < RECORDS {
         return TotalsReply::Refused(Refusal::TableTooShort);
     }
-    let state = engine.state;
-    let queries = list_of(engine, list);
+    let numbers = laid(list, state.registered);
     calls::totals(
         state,
-        queries,
+        &numbers,
         starts,
         sums,
         max_starts,

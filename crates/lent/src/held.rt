@@ -1,48 +1,13 @@
-// What goes in and comes back by value where the query list is lent.
-use engine::calls::Answered;
-use engine::state::State;
+// What a call on a copy of the query list comes to.
+use engine::calls::Reply;
 use window::query::Query;
-use window::refusal::Verdict;
 ghost use mathlib.Core.Path.{_≡_};
-ghost use Rattle.engine.specs.States.{FreshState};
 
-// The engine between two calls, beside what is lent: its state, and how many records of the query list are used.
-pub struct Engine {
-    pub state: State,
-    pub registered: usize,
-}
-
-impl Engine {
-    // What a caller hands to its first start.
-    pub fn fresh() -> Engine
-        ensures { λ r. ⌜ FreshState (r .state) × (r .registered ≡ 0) ⌝ }
-    {
-        let state = State::fresh();
-        Engine {
-            state,
-            registered: 0,
-        }
-    }
-}
-
-// What a start, a registration or a withdrawal comes to, with the engine handed back: equal where it is refused.
-pub struct Reply {
-    pub verdict: Verdict,
-    pub engine: Engine,
-}
-
-// What a reading comes to, with the engine handed back: equal where it is refused.
-pub struct ReadingReply {
-    pub outcome: Answered,
-    pub engine: Engine,
-}
-
-// What a call on a copy of the query list comes to: the reply, the list after it, and how many of its records are to be
-// put back.
+// What the caller is told, and what is to be done to the lent list: with how many records, and with which query.
 pub struct OnCopy {
     pub reply: Reply,
-    pub list: [Query; 32],
-    pub write: usize,
+    pub count: usize,
+    pub query: Query,
 }
 
 // The parts, each by a method: the walk of a function that reads a field of so deep a struct goes past the prover's
@@ -56,18 +21,26 @@ impl OnCopy {
         reply
     }
 
-    // The list after the call.
-    pub(crate) fn listed(self) -> [Query; 32]
-        ensures { λ r. ⌜ r ≡ self .list ⌝ }
+    // The number of records.
+    pub(crate) fn counted(self) -> usize
+        ensures { λ r. ⌜ r ≡ self .count ⌝ }
     {
-        let list = self.list;
-        list
+        self.count
     }
 
-    // How many of its records are to be put back.
-    pub(crate) fn to_write(self) -> usize
-        ensures { λ r. ⌜ r ≡ self .write ⌝ }
+    // The query that joins.
+    pub(crate) fn joining(self) -> Query
+        ensures { λ r. ⌜ r ≡ self .query ⌝ }
     {
-        self.write
+        let query = self.query;
+        query
+    }
+
+    // The number of the query that leaves.
+    pub(crate) fn leaving(self) -> u32
+        ensures { λ r. ⌜ r ≡ self .query .number ⌝ }
+    {
+        let query = self.query;
+        query.number
     }
 }

@@ -13,22 +13,10 @@ use lib.IntN.{ℤ, pos, negℤ, _-ℤ_, +ℤ-idl}
 use mir.Syntax.{w32, w64}
 use mir.Val.{SFits, toZ, ofZ}
 use mir.Facts.{toZ-ofZ, toZ-pos, sfits-widen}
-use Rattle.parse.specs.Numbers.{digit, digits, written, digitsValue, numberOf, NumberBelow, signedOf, positive, negative}
+use Rattle.parse.specs.Numbers.{digit, digits, written, starts, digitsValue, valueOr, numberOf, NumberBelow, signedOf, positive, negative}
 use Rattle.parse.specs.declared.numbers.Number.{Number}
 use Rattle.parse.specs.declared.numbers.Signed.{Signed}
 use Rattle.parse.proofs.Scanning.{here}
-
--- ---- a loop that has come to i, where all bytes before it are digits: so all are, if all from i on are
-
-module _ (s : List ℕ) (i : ℕ) (l : i < length s) where
-  pub digits-more : (a : Bool) → a ≡ digits (drop i s) → digit (getD s i 0) ≡ true → a ≡ digits (drop (i + 1) s)
-  digits-more a h e = h ∙ ap digits (here s i l) ∙ ap (λ t. t && digits (drop (i + 1) s)) e
-
-  pub digits-stop : (a : Bool) → a ≡ digits (drop i s) → digit (getD s i 0) ≡ false → false ≡ a
-  digits-stop a h e = sym (h ∙ ap digits (here s i l) ∙ ap (λ t. t && digits (drop (i + 1) s)) e)
-
-pub digits-end : (s : List ℕ) (i : ℕ) (a : Bool) → length s ≤ i → a ≡ digits (drop i s) → true ≡ a
-digits-end s i a l h = sym (h ∙ ap digits (drop-of-length-le s l))
 
 -- ---- the value, capped
 
@@ -40,16 +28,28 @@ cap-once cap n (b ∷ bs) =
     ∙ ap (λ (k : ℕ). min cap (digitsValue k bs)) (omega arith)
     ∙ sym (cap-once cap (min cap n * 10 + (b - 48)) bs)
 
--- the digit at i is taken in
-pub value-more : (s : List ℕ) (i : ℕ) → i < length s → (cap n n′ a : ℕ) → a ≡ min cap (digitsValue n (drop i s)) → n′ ≡ min cap (n * 10 + (getD s i 0 - 48)) → a ≡ min cap (digitsValue n′ (drop (i + 1) s))
-value-more s i l cap n n′ a h e =
-    h ∙ ap (λ (t : List ℕ). min cap (digitsValue n t)) (here s i l)
-    ∙ cap-once cap (n * 10 + (getD s i 0 - 48)) (drop (i + 1) s)
-    ∙ ap (λ (k : ℕ). min cap (digitsValue k (drop (i + 1) s))) (sym e)
+-- a loop that has come to i, where n is made of all bytes before it
+module _ (s : List ℕ) (i cap n a : ℕ) where
+  abbrev valueIf : List ℕ → Bool → ℕ
+  valueIf t p = cond p (min cap (digitsValue n t)) (cap + 1)
 
--- all are taken in
-pub value-end : (s : List ℕ) (i : ℕ) → length s ≤ i → (cap n a : ℕ) → n ≤ cap → a ≡ min cap (digitsValue n (drop i s)) → n ≡ a
-value-end s i l cap n a k h = omega (arith, h, ap (λ (t : List ℕ). min cap (digitsValue n t)) (drop-of-length-le s l))
+  -- the digit at i is taken in
+  pub value-more : (n′ : ℕ) → i < length s → digit (getD s i 0) ≡ true → n′ ≡ min cap (n * 10 + (getD s i 0 - 48)) → a ≡ valueOr cap n (drop i s) → a ≡ valueOr cap n′ (drop (i + 1) s)
+  unfolding valueOr
+  value-more n′ l d e h =
+      h ∙ ap (valueOr cap n) (here s i l) ∙ ap (λ (t : Bool). valueIf (getD s i 0 ∷ drop (i + 1) s) (t && digits (drop (i + 1) s))) d
+      ∙ ap (λ (k : ℕ). cond (digits (drop (i + 1) s)) k (cap + 1)) (cap-once cap (n * 10 + (getD s i 0 - 48)) (drop (i + 1) s) ∙ ap (λ (k : ℕ). min cap (digitsValue k (drop (i + 1) s))) (sym e))
+
+  -- there is none at i
+  pub value-stop : i < length s → digit (getD s i 0) ≡ false → a ≡ valueOr cap n (drop i s) → cap + 1 ≡ a
+  unfolding valueOr
+  value-stop l d h =
+      sym (h ∙ ap (valueOr cap n) (here s i l) ∙ ap (λ (t : Bool). valueIf (getD s i 0 ∷ drop (i + 1) s) (t && digits (drop (i + 1) s))) d)
+
+  -- all are taken in
+  pub value-end : length s ≤ i → n ≤ cap → a ≡ valueOr cap n (drop i s) → n ≡ a
+  unfolding valueOr
+  value-end l k h = omega (arith, h, ap (valueOr cap n) (drop-of-length-le s l))
 
 -- ---- a number of 32 bits
 
@@ -81,29 +81,28 @@ from-bits e f = ap (λ z. toZ w32 (ofZ w32 z)) e ∙ toZ-ofZ f
 
 -- ---- digits without a leading zero
 
-pub written-none : (s : List ℕ) → length s ≡ 0 → false ≡ written s
-written-none [] h = refl
-written-none (b ∷ bs) h = absurd (omega arith)
+pub starts-none : (s : List ℕ) → length s ≡ 0 → false ≡ starts s
+starts-none [] h = refl
+starts-none (b ∷ bs) h = absurd (omega arith)
 
-pub written-one : (s : List ℕ) → length s ≡ 1 → digit (getD s 0 0) ≡ written s
-written-one [] h = absurd (omega arith)
-written-one (b ∷ []) h = refl
-written-one (b ∷ c ∷ bs) h = absurd (omega arith)
+pub starts-one : (s : List ℕ) → length s ≡ 1 → true ≡ starts s
+starts-one [] h = absurd (omega arith)
+starts-one (b ∷ []) h = refl
+starts-one (b ∷ c ∷ bs) h = absurd (omega arith)
 
-module _ (s : List ℕ) (some : length s ≡ 0 → ⊥) (more : length s ≡ 1 → ⊥) where
-  written-is : written s ≡ (not (eqb (getD s 0 0) 48) && digits s)
-  written-is = go s some more
-    where
-      go : (t : List ℕ) → (length t ≡ 0 → ⊥) → (length t ≡ 1 → ⊥) → written t ≡ (not (eqb (getD t 0 0) 48) && digits t)
-      go [] p q = absurd (p refl)
-      go (b ∷ []) p q = absurd (q refl)
-      go (b ∷ c ∷ bs) p q = refl
+pub starts-more : (s : List ℕ) → (length s ≡ 0 → ⊥) → (length s ≡ 1 → ⊥) → not (eqb (getD s 0 0) 48) ≡ starts s
+starts-more [] p q = absurd (p refl)
+starts-more (b ∷ []) p q = absurd (q refl)
+starts-more (b ∷ c ∷ bs) p q = refl
 
-  pub written-zero : getD s 0 0 ≡ 48 → false ≡ written s
-  written-zero e = sym (written-is ∙ ap (λ t. not t && digits s) (eq-eqb (getD s 0 0) 48 e))
-
-  pub written-more : (getD s 0 0 ≡ 48 → ⊥) → digits s ≡ written s
-  written-more e = sym (written-is ∙ ap (λ t. not t && digits s) (ne-eqb (getD s 0 0) 48 e))
+written-is : (s : List ℕ) → written s ≡ (starts s && digits s)
+written-is [] = refl
+written-is (b ∷ []) = and-true (digit b)
+  where
+    and-true : (t : Bool) → t ≡ (t && true)
+    and-true true = refl
+    and-true false = refl
+written-is (b ∷ c ∷ bs) = refl
 
 -- ---- unsigned numbers
 
@@ -111,7 +110,7 @@ module _ (most : ℕ) (s : List ℕ) where
   abbrev fitting : Bool → Bool → Number
   fitting p q = cond p (cond q (Number.Is (digitsValue 0 s)) Number.Wide) Number.Malformed
 
-  pub number-malformed : written s ≡ false → Number.Malformed ≡ numberOf most s
+  number-malformed : written s ≡ false → Number.Malformed ≡ numberOf most s
   unfolding numberOf
   number-malformed e = sym (ap (λ p. fitting p (leb (digitsValue 0 s) most)) e)
 
@@ -120,10 +119,47 @@ module _ (most : ℕ) (s : List ℕ) where
   number-is n e h l =
       ap Number.Is (omega arith) ∙ sym (ap (λ p. fitting p (leb (digitsValue 0 s) most)) e ∙ ap (fitting true) (le-leb (digitsValue 0 s) most (omega arith)))
 
-  pub number-wide : (n : ℕ) → written s ≡ true → n ≡ min (most + 1) (digitsValue 0 s) → most < n → Number.Wide ≡ numberOf most s
+  number-wide : (n : ℕ) → written s ≡ true → n ≡ min (most + 1) (digitsValue 0 s) → most < n → Number.Wide ≡ numberOf most s
   unfolding numberOf
   number-wide n e h l =
       sym (ap (λ p. fitting p (leb (digitsValue 0 s) most)) e ∙ ap (fitting true) (lt-leb (digitsValue 0 s) most (omega arith)))
+
+  -- by the value of bytes that start as a number does
+  module _ (n : ℕ) (first : starts s ≡ true) (h : n ≡ valueOr (most + 1) 0 s) where
+    abbrev valued : Bool → ℕ
+    valued p = cond p (min (most + 1) (digitsValue 0 s)) (most + 1 + 1)
+
+    written-by : {t : Bool} → digits s ≡ t → written s ≡ t
+    written-by e = written-is s ∙ ap (λ p. p && digits s) first ∙ e
+
+    value-by : {t : Bool} → digits s ≡ t → n ≡ valued t
+    unfolding valueOr
+    value-by e = h ∙ ap valued e
+
+    pub value-is : n ≤ most → Number.Is n ≡ numberOf most s
+    value-is l = go (digits s) refl
+      where
+        go : (t : Bool) → digits s ≡ t → Number.Is n ≡ numberOf most s
+        go true e = number-is n (written-by e) (value-by e) l
+        go false e = absurd (omega (arith, value-by e))
+
+    pub value-wide : n ≡ most + 1 → Number.Wide ≡ numberOf most s
+    value-wide l = go (digits s) refl
+      where
+        go : (t : Bool) → digits s ≡ t → Number.Wide ≡ numberOf most s
+        go true e = number-wide n (written-by e) (value-by e) (omega arith)
+        go false e = absurd (omega (arith, value-by e))
+
+    pub value-none : most < n → (n ≡ most + 1 → ⊥) → Number.Malformed ≡ numberOf most s
+    value-none l more = go (digits s) refl
+      where
+        go : (t : Bool) → digits s ≡ t → Number.Malformed ≡ numberOf most s
+        go true e = absurd (more (omega (arith, value-by e)))
+        go false e = number-malformed (written-by e)
+
+  -- bytes that start otherwise
+  pub start-malformed : starts s ≡ false → Number.Malformed ≡ numberOf most s
+  start-malformed e = number-malformed (written-is s ∙ ap (λ p. p && digits s) e)
 
   -- the number, if there is one, is at most `most`
   pub number-below : NumberBelow most (numberOf most s)

@@ -1,6 +1,6 @@
 -- Laws of slices: `slice f t l` is what stands in l from place f up to place t.
 -- Assumes nothing.
-use Prim.Native.Nat.{ℕ, zero, suc, _+_, _≤_}
+use Prim.Native.Nat.{ℕ, zero, suc, _+_, _-_, _≤_}
 use native.Mathlib.Omega.{arith}
 use mathlib.Core.Path.{_≡_, sym, ap, _∙_}
 use mathlib.Core.List.{List, [], _∷_, _++_}
@@ -16,6 +16,12 @@ slice-is (suc f) k [] = ap (drop (suc f)) (take-all (suc f + k) [] (omega arith)
 slice-is (suc f) k (x ∷ xs) =
     let q : suc f + k ≡ suc (f + k) = omega arith in
     ap (λ (n : ℕ). drop (suc f) (take n (x ∷ xs))) q ∙ slice-is f k xs
+
+-- from a place up to another
+pub slice-of : (f t : ℕ) (l : List ℕ) → f ≤ t → slice f t l ≡ take (t - f) (drop f l)
+slice-of f t l h =
+    let q : t ≡ f + (t - f) = omega arith in
+    ap (λ (n : ℕ). slice f n l) q ∙ slice-is f (t - f) l
 
 -- two slices that meet
 pub slice-then : (f i t : ℕ) (l : List ℕ) → f ≤ i → i ≤ t → t ≤ length l → slice f i l ++ slice i t l ≡ slice f t l

@@ -1,7 +1,7 @@
 -- Numbers as a session line writes them (document 01, "Session lines"): digits without a leading zero, or 0. Bytes are
 -- natural numbers.
 -- Assumes nothing.
-use Prim.Native.Nat.{ℕ, _+_, _*_, _-_, _≤_}
+use Prim.Native.Nat.{ℕ, _+_, _*_, _-_, _≤_, min}
 use mathlib.Core.Bool.{Bool, true, false, not, _&&_, cond}
 use mathlib.Core.List.{List, [], _∷_}
 use lib.Dec.{leb, eqb}
@@ -28,6 +28,17 @@ written (b ∷ c ∷ bs) = not (eqb b 48) && digits (b ∷ c ∷ bs)
 abbrev pub digitsValue : ℕ → List ℕ → ℕ
 digitsValue n [] = n
 digitsValue n (b ∷ bs) = digitsValue (n * 10 + (b - 48)) bs
+
+-- there is a byte, and no zero stands before others; only inner functions use it
+abbrev pub starts : List ℕ → Bool
+starts [] = false
+starts (b ∷ []) = true
+starts (b ∷ c ∷ bs) = not (eqb b 48)
+
+-- the number that these digits make behind those of n, or the cap where that is more; one above the cap where a byte
+-- is no digit. Only inner functions use it
+unfoldable pub valueOr : ℕ → ℕ → List ℕ → ℕ
+valueOr cap n s = cond (digits s) (min cap (digitsValue n s)) (cap + 1)
 
 -- an unsigned number that may be at most `most`
 unfoldable pub numberOf : ℕ → List ℕ → Number

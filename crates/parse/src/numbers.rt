@@ -2,7 +2,7 @@
 ghost use mathlib.Core.Path.{_≡_};
 ghost use Prim.Native.Nat.{_-_, _<_, _≤_, min};
 ghost use lib.IntN.{pos, negℤ};
-ghost use Rattle.parse.specs.Numbers.{digit, digits, written, digitsValue, numberOf, signedOf, positive, negative, NumberBelow};
+ghost use Rattle.parse.specs.Numbers.{digit, starts, valueOr, numberOf, signedOf, positive, negative, NumberBelow};
 
 // What a field is as an unsigned number: no number as written (refusal 14), a number outside its width (15), or a
 // number.
@@ -25,33 +25,17 @@ fn is_digit(b: u8) -> bool
     if b < 48 { false } else { b <= 57 }
 }
 
-fn all_digits(s: &[u8]) -> bool
-    ensures { λ r. ⌜ r ≡ digits (now (s .entry)) ⌝ }
-{
-    let mut i = 0;
-    while i < s.len() {
-        if !is_digit(s[i]) {
-            return false;
-        }
-        i += 1;
-    }
-    true
-}
-
-// Whether the bytes are digits without a leading zero, or 0.
-fn is_written(s: &[u8]) -> bool
-    ensures { λ r. ⌜ r ≡ written (now (s .entry)) ⌝ }
+// Whether the bytes start as a number does: there is one, and no zero stands before others.
+fn starts(s: &[u8]) -> bool
+    ensures { λ r. ⌜ r ≡ starts (now (s .entry)) ⌝ }
 {
     if s.len() == 0 {
         return false;
     }
     if s.len() == 1 {
-        return is_digit(s[0]);
+        return true;
     }
-    if s[0] == 48 {
-        return false;
-    }
-    all_digits(s)
+    s[0] != 48
 }
 
 // What a byte stands for, if it is a digit; some small number if it is none.
@@ -67,16 +51,21 @@ fn capped(x: u64, cap: u64) -> u64
     if x < cap { x } else { cap }
 }
 
-// The number that the digits make, or the cap where that is more: so it cannot wrap, however many they are.
+// The number that the digits make, or the cap where that is more: so it cannot wrap, however many they are. One above
+// the cap where a byte is no digit.
 fn value(s: &[u8], cap: u64) -> u64
     requires { ⌜ cap ≤ 4294967296 ⌝ }
-    ensures { λ r. ⌜ r ≡ min cap (digitsValue 0 (now (s .entry))) ⌝ }
+    ensures { λ r. ⌜ r ≡ valueOr cap 0 (now (s .entry)) ⌝ }
 {
     let mut n: u64 = 0;
     let mut i = 0;
     while i < s.len() {
-        let f = digit_value(s[i]);
-        n = capped(n * 10 + f, cap);
+        let b = s[i];
+        if is_digit(b) {
+            n = capped(n * 10 + digit_value(b), cap);
+        } else {
+            return cap + 1;
+        }
         i += 1;
     }
     n
@@ -87,14 +76,17 @@ pub(crate) fn unsigned_number(s: &[u8], most: u64) -> Number
     requires { ⌜ most ≤ 4294967295 ⌝ }
     ensures { λ r. ⌜ r ≡ numberOf most (now (s .entry)) ⌝ }
 {
-    if !is_written(s) {
+    if !starts(s) {
         return Number::Malformed;
     }
     let n = value(s, most + 1);
     if n <= most {
-        Number::Is(n as u32)
-    } else {
+        return Number::Is(n as u32);
+    }
+    if n == most + 1 {
         Number::Wide
+    } else {
+        Number::Malformed
     }
 }
 

@@ -13,8 +13,7 @@ use lib.ListN.{length, take, length-append, length-take}
 use types.Run.{OneOf, miss}
 use denote.Enum.Declared.{tagOf}
 use Rattle.io.specs.Counts.{clamped}
-use Rattle.board.specs.Tables.{Tables}
-use Rattle.session.specs.Contracts.{Held, lineLimit}
+use Rattle.session.specs.Contracts.{Held, lineLimit, Lent, lentOf}
 use Rattle.session.specs.Whole.{Reached, Carries, CarriesLimit, RanAll}
 use Rattle.session.proofs.Whole.{whole-session}
 use Rattle.session.proofs.Composing.{carries-nothing, carries-then, limit-many, limit-then}
@@ -176,7 +175,7 @@ reads-spent l fed = limit-many (omega (arith, l, reads-many (fed .reads))) (fed 
 -- ---- the whole run
 
 -- all input, from the opening on
-pub all-handed : {lent : Tables} {h : Held} (h′ : Held) (p : Progress) → Reached lent [] h → AllRead h h′ p → Handed lent h′ p
+pub all-handed : {lent : Lent} {h : Held} (h′ : Held) (p : Progress) → Reached lent [] h → AllRead h h′ p → Handed lent h′ p
 unfolding AllRead Handed
 all-handed {lent} {h} h′ p first = go p
   where
@@ -191,12 +190,12 @@ all-handed {lent} {h} h′ p first = go p
     go progress.TooLong r = r .on lent [] first
 
 -- where the input ended, it was fed
-pub handed-ended : (lent : Tables) (h : Held) {p : Progress} → p ≡ progress.InputEnded → Handed lent h p → ReachedReads lent h
+pub handed-ended : (lent : Lent) (h : Held) {p : Progress} → p ≡ progress.InputEnded → Handed lent h p → ReachedReads lent h
 unfolding Handed
 handed-ended lent h e p = subst (Handed lent h) e p
 
 -- where it did not end, the session is broken off: the other cases, by their numbers
-pub not-ended : (lent : Tables) (h : Held) (new : List ℕ) (p : Progress) → OneOf (0 ∷ 2 ∷ 3 ∷ 4 ∷ []) (tagOf the-type p) → Handed lent h p → Concluded lent (h .tables) new p
+pub not-ended : (lent : Lent) (h : Held) (new : List ℕ) (p : Progress) → OneOf (0 ∷ 2 ∷ 3 ∷ 4 ∷ []) (tagOf the-type p) → Handed lent h p → Concluded lent (lentOf h) new p
 unfolding Handed Concluded
 not-ended lent h new progress.Onward k handed = handed
 not-ended lent h new progress.InputEnded k handed = absurd (miss (0 ∷ 2 ∷ 3 ∷ 4 ∷ []) 1 tt k)
@@ -230,7 +229,7 @@ heard-after p q said got got′ buffer e same heard =
     go progress.TooLong s h = h
 
 -- a session whole, where the last write did not fail
-pub concluded : (said : Bool) {lent left : Tables} {h : Held} {new : List ℕ} (p : Progress) → p ≡ afterWrite said progress.InputEnded → (u : ReachedReads lent h)
+pub concluded : (said : Bool) {lent left : Lent} {h : Held} {new : List ℕ} (p : Progress) → p ≡ afterWrite said progress.InputEnded → (u : ReachedReads lent h)
     → RanAll (u .bytes) lent left new → Concluded lent left new p
 unfolding Concluded
 concluded said {lent} {left} {h} {new} p e u ran = subst (Concluded lent left new) (sym e) (go said)

@@ -10,9 +10,8 @@ use lib.IntN.{ℤ, pos}
 use lib.Signed.{ltZ}
 use lib.ListN.{length, take}
 use Rattle.io.specs.Counts.{clamped}
-use Rattle.board.specs.Tables.{Tables}
 use Rattle.session.specs.Meaning.{sessionOutput}
-use Rattle.session.specs.Contracts.{Held}
+use Rattle.session.specs.Contracts.{Held, Lent, lentOf}
 use Rattle.session.specs.Whole.{Reached, ReachedLimit, Carries, CarriesLimit, RanAll}
 use Rattle.pchelodar.specs.declared.Progress.{Progress}
 use Rattle.pchelodar.specs.declared.Progress.the-variants as progress
@@ -117,15 +116,15 @@ AllRead h h′ progress.ReadFailed = SomeFed h h′
 AllRead h h′ progress.WriteFailed = Unit {0}
 AllRead h h′ progress.TooLong = CarriesLimit h h′
 
--- a session that was opened on these tables and fed all that so many reads brought
-pub record ReachedReads (lent : Tables) (h : Held) : Type 0 where
+-- a session that was opened on this query list and these tables and fed all that so many reads brought
+pub record ReachedReads (lent : Lent) (h : Held) : Type 0 where
   pub number : ℕ
   pub bytes : List ℕ
   pub reads : Intake number bytes
   pub reached : Reached lent bytes h
 
 -- what conclude is handed
-unfoldable pub Handed : Tables → Held → Progress → Type 0
+unfoldable pub Handed : Lent → Held → Progress → Type 0
 Handed lent h progress.Onward = ⊥
 Handed lent h progress.InputEnded = ReachedReads lent h
 Handed lent h progress.ReadFailed = ReachedReads lent h
@@ -143,23 +142,23 @@ afterReads progress.ReadFailed said = progress.ReadFailed
 afterReads progress.WriteFailed said = progress.WriteFailed
 afterReads progress.TooLong said = progress.TooLong
 
--- a run to its end, which leaves the tables and the output like this: the session of all bytes that were fed, opened on
--- these tables, is whole
-pub record RanReads (lent left : Tables) (new : List ℕ) : Type 0 where
+-- a run to its end, which leaves the query list, the tables and the output like this: the session of all bytes that
+-- were fed, opened on these, is whole
+pub record RanReads (lent left : Lent) (new : List ℕ) : Type 0 where
   pub number : ℕ
   pub bytes : List ℕ
   pub reads : Intake number bytes
   pub ran : RanAll bytes lent left new
 
--- a session that was opened on these tables and broken off where it was like `Broken`, and the tables that it left
-pub record BrokenOff (Broken : Held → Type 0) (left : Tables) : Type 0 where
+-- a session that was broken off where it was like `Broken`, and the query list and the tables that it left
+pub record BrokenOff (Broken : Held → Type 0) (left : Lent) : Type 0 where
   pub last : Held
   pub broken : Broken last
-  pub leaves : left ≡ last .tables
+  pub leaves : left ≡ lentOf last
 
 -- run: the whole session, or one that was broken off since a read or a write failed, or after 2^64 - 2 bytes. Where a
 -- write failed nothing is promised
-unfoldable pub Concluded : Tables → Tables → List ℕ → Progress → Type 0
+unfoldable pub Concluded : Lent → Lent → List ℕ → Progress → Type 0
 Concluded lent left new progress.Onward = ⊥
 Concluded lent left new progress.InputEnded = RanReads lent left new
 Concluded lent left new progress.ReadFailed = BrokenOff (ReachedReads lent) left
@@ -168,4 +167,4 @@ Concluded lent left new progress.TooLong = BrokenOff (ReachedLimit lent) left
 
 -- the claim about such a run: what was put into the output, in all, is the session of all bytes that were fed
 abbrev pub WholeRun : Type 0
-WholeRun = (lent left : Tables) (new : List ℕ) (r : RanReads lent left new) → r .ran .output ≡ sessionOutput (r .bytes)
+WholeRun = (lent left : Lent) (new : List ℕ) (r : RanReads lent left new) → r .ran .output ≡ sessionOutput (r .bytes)

@@ -4,14 +4,17 @@ use deque::ring::CAPACITY;
 use libc::STDERR_FILENO;
 use libc::STDIN_FILENO;
 use libc::STDOUT_FILENO;
+use parse::kept::KEPT;
+use registry::list::LIST_PLACES;
 use session::stream::Session;
 use window::count::Count;
 ghost use mathlib.Core.Path.{_≡_};
 ghost use mathlib.Core.Bool.{true};
 ghost use Prim.Native.Nat.{_≤_};
 ghost use lib.ListN.{length};
-ghost use Rattle.board.specs.Tables.{Tables, tables, tablesLong};
-ghost use Rattle.session.specs.Contracts.{held, finishRoom};
+ghost use Rattle.board.specs.Tables.{tables};
+ghost use Rattle.parse.specs.Kept.{keptLength};
+ghost use Rattle.session.specs.Contracts.{held, Lent, lent, lentLong, finishRoom};
 ghost use Rattle.pchelodar.specs.Contracts.{Told, afterWrite, afterFeed, ChunkFed, readOf, AfterRead, Heard, AllRead, Handed, afterReads, Concluded};
 
 // How a run goes on, or ended.
@@ -68,6 +71,8 @@ fn after_feed(from: usize, to: usize) -> Progress
 // All bytes of a chunk. What they print is written whenever the output is nearly full, and at the chunk's end.
 fn feed_chunk(
     session: Session,
+    list: &mut [u32],
+    line: &mut [u8],
     starts: &mut [Count],
     sums: &mut [i64],
     max_starts: &mut [Count],
@@ -79,14 +84,16 @@ fn feed_chunk(
 ) -> ChunkEnd
     requires { ⌜ finishRoom ≤ length (now out) ⌝ }
     ensures { λ r. ⌜ (ChunkFed (now (chunk .entry))
-        (held session (tables (now (starts .entry)) (now (sums .entry)) (now («max_starts» .entry)) (now («max_values» .entry)) (now («min_starts» .entry)) (now («min_values» .entry))))
-        (held (r .session) (tables (now (starts .exit)) (now (sums .exit)) (now («max_starts» .exit)) (now («max_values» .exit)) (now («min_starts» .exit)) (now («min_values» .exit)))) (r .progress)) × Told (r .progress) (r .said) ⌝ }
+        (held session (now (list .entry)) (now (line .entry)) (tables (now (starts .entry)) (now (sums .entry)) (now («max_starts» .entry)) (now («max_values» .entry)) (now («min_starts» .entry)) (now («min_values» .entry))))
+        (held (r .session) (now (list .exit)) (now (line .exit)) (tables (now (starts .exit)) (now (sums .exit)) (now («max_starts» .exit)) (now («max_values» .exit)) (now («min_starts» .exit)) (now («min_values» .exit)))) (r .progress)) × Told (r .progress) (r .said) ⌝ }
 {
     let mut held = session;
     let mut from = 0;
     while from < chunk.len() {
         let taken = session::stream::feed(
             held,
+            list,
+            line,
             starts,
             sums,
             max_starts,
@@ -124,6 +131,8 @@ fn feed_chunk(
 fn after_read(
     got: isize,
     session: Session,
+    list: &mut [u32],
+    line: &mut [u8],
     starts: &mut [Count],
     sums: &mut [i64],
     max_starts: &mut [Count],
@@ -135,8 +144,8 @@ fn after_read(
 ) -> ChunkEnd
     requires { ⌜ finishRoom ≤ length (now out) ⌝ }
     ensures { λ r. ⌜ (AfterRead (readOf got (now (chunk .entry)))
-        (held session (tables (now (starts .entry)) (now (sums .entry)) (now («max_starts» .entry)) (now («max_values» .entry)) (now («min_starts» .entry)) (now («min_values» .entry))))
-        (held (r .session) (tables (now (starts .exit)) (now (sums .exit)) (now («max_starts» .exit)) (now («max_values» .exit)) (now («min_starts» .exit)) (now («min_values» .exit)))) (r .progress)) × Told (r .progress) (r .said) ⌝ }
+        (held session (now (list .entry)) (now (line .entry)) (tables (now (starts .entry)) (now (sums .entry)) (now («max_starts» .entry)) (now («max_values» .entry)) (now («min_starts» .entry)) (now («min_values» .entry))))
+        (held (r .session) (now (list .exit)) (now (line .exit)) (tables (now (starts .exit)) (now (sums .exit)) (now («max_starts» .exit)) (now («max_values» .exit)) (now («min_starts» .exit)) (now («min_values» .exit)))) (r .progress)) × Told (r .progress) (r .said) ⌝ }
 {
     if got < 0 {
         return ChunkEnd {
@@ -155,6 +164,8 @@ fn after_read(
     }
     feed_chunk(
         session,
+        list,
+        line,
         starts,
         sums,
         max_starts,
@@ -170,6 +181,8 @@ fn after_read(
 // century.
 fn read_all(
     session: Session,
+    list: &mut [u32],
+    line: &mut [u8],
     starts: &mut [Count],
     sums: &mut [i64],
     max_starts: &mut [Count],
@@ -180,8 +193,8 @@ fn read_all(
     out: &mut [u8],
 ) -> ReadsEnd
     requires { ⌜ finishRoom ≤ length (now out) ⌝ }
-    ensures { λ r. ⌜ (AllRead (held session (tables (now (starts .entry)) (now (sums .entry)) (now («max_starts» .entry)) (now («max_values» .entry)) (now («min_starts» .entry)) (now («min_values» .entry))))
-        (held (r .session) (tables (now (starts .exit)) (now (sums .exit)) (now («max_starts» .exit)) (now («max_values» .exit)) (now («min_starts» .exit)) (now («min_values» .exit)))) (r .progress))
+    ensures { λ r. ⌜ (AllRead (held session (now (list .entry)) (now (line .entry)) (tables (now (starts .entry)) (now (sums .entry)) (now («max_starts» .entry)) (now («max_values» .entry)) (now («min_starts» .entry)) (now («min_values» .entry))))
+        (held (r .session) (now (list .exit)) (now (line .exit)) (tables (now (starts .exit)) (now (sums .exit)) (now («max_starts» .exit)) (now («max_values» .exit)) (now («min_starts» .exit)) (now («min_values» .exit)))) (r .progress))
         × (Heard (r .progress) (readOf (r .got) (now (chunk .exit))) × Told (r .progress) (r .said)) ⌝ }
 {
     let mut held = session;
@@ -192,6 +205,8 @@ fn read_all(
         let next = after_read(
             got,
             held,
+            list,
+            line,
             starts,
             sums,
             max_starts,
@@ -226,6 +241,8 @@ fn read_all(
 // written.
 fn conclude(
     done: ReadsEnd,
+    list: &mut [u32],
+    line: &[u8],
     starts: &mut [Count],
     sums: &mut [i64],
     max_starts: &mut [Count],
@@ -236,8 +253,8 @@ fn conclude(
 ) -> RunEnd
     requires { ⌜ finishRoom ≤ length (now out) ⌝ }
     ensures { λ r. ⌜ ((r .progress ≡ afterReads (done .progress) (r .said)) × (r .got ≡ done .got))
-        × (((lent : Tables) → Handed lent (held (done .session) (tables (now (starts .entry)) (now (sums .entry)) (now («max_starts» .entry)) (now («max_values» .entry)) (now («min_starts» .entry)) (now («min_values» .entry)))) (done .progress)
-        → Concluded lent (tables (now (starts .exit)) (now (sums .exit)) (now («max_starts» .exit)) (now («max_values» .exit)) (now («min_starts» .exit)) (now («min_values» .exit))) (now (out .exit)) (r .progress))
+        × (((l : Lent) → Handed l (held (done .session) (now (list .entry)) (now (line .entry)) (tables (now (starts .entry)) (now (sums .entry)) (now («max_starts» .entry)) (now («max_values» .entry)) (now («min_starts» .entry)) (now («min_values» .entry)))) (done .progress)
+        → Concluded l (lent (now (list .exit)) (tables (now (starts .exit)) (now (sums .exit)) (now («max_starts» .exit)) (now («max_values» .exit)) (now («min_starts» .exit)) (now («min_values» .exit)))) (now (out .exit)) (r .progress))
         × (Told (done .progress) (done .said) → Told (r .progress) (r .said))) ⌝ }
 {
     let session = done.session;
@@ -245,6 +262,8 @@ fn conclude(
     let at = match progress {
         Progress::InputEnded => session::stream::finish(
             session,
+            list,
+            line,
             starts,
             sums,
             max_starts,
@@ -289,6 +308,8 @@ fn message(text: &[u8]) {
 
 // A whole session.
 fn run(
+    list: &mut [u32],
+    line: &mut [u8],
     starts: &mut [Count],
     sums: &mut [i64],
     max_starts: &mut [Count],
@@ -298,11 +319,12 @@ fn run(
     chunk: &mut [u8],
     out: &mut [u8],
 ) -> RunEnd
-    requires { ⌜ (tablesLong (tables (now starts) (now sums) (now «max_starts») (now «max_values») (now «min_starts») (now «min_values»)) ≡ true) × (finishRoom ≤ length (now out)) ⌝ }
-    ensures { λ r. ⌜ (Concluded (tables (now (starts .entry)) (now (sums .entry)) (now («max_starts» .entry)) (now («max_values» .entry)) (now («min_starts» .entry)) (now («min_values» .entry)))
-        (tables (now (starts .exit)) (now (sums .exit)) (now («max_starts» .exit)) (now («max_values» .exit)) (now («min_starts» .exit)) (now («min_values» .exit))) (now (out .exit)) (r .progress)) × (Heard (r .progress) (readOf (r .got) (now (chunk .exit))) × Told (r .progress) (r .said)) ⌝ }
+    requires { ⌜ (lentLong (lent (now list) (tables (now starts) (now sums) (now «max_starts») (now «max_values») (now «min_starts») (now «min_values»))) ≡ true) × ((keptLength ≤ length (now line)) × (finishRoom ≤ length (now out))) ⌝ }
+    ensures { λ r. ⌜ (Concluded (lent (now (list .entry)) (tables (now (starts .entry)) (now (sums .entry)) (now («max_starts» .entry)) (now («max_values» .entry)) (now («min_starts» .entry)) (now («min_values» .entry))))
+        (lent (now (list .exit)) (tables (now (starts .exit)) (now (sums .exit)) (now («max_starts» .exit)) (now («max_values» .exit)) (now («min_starts» .exit)) (now («min_values» .exit)))) (now (out .exit)) (r .progress)) × (Heard (r .progress) (readOf (r .got) (now (chunk .exit))) × Told (r .progress) (r .said)) ⌝ }
 {
     let opened = session::stream::open(
+        list,
         starts,
         sums,
         max_starts,
@@ -312,6 +334,8 @@ fn run(
     );
     let done = read_all(
         opened,
+        list,
+        line,
         starts,
         sums,
         max_starts,
@@ -323,6 +347,8 @@ fn run(
     );
     conclude(
         done,
+        list,
+        line,
         starts,
         sums,
         max_starts,
@@ -334,6 +360,8 @@ fn run(
 }
 
 fn main() {
+    let mut list = [0u32; LIST_PLACES];
+    let mut line = [0u8; KEPT];
     let mut starts: [Count; CAPACITY] = [0; CAPACITY];
     let mut sums = [0i64; CAPACITY];
     let mut max_starts: [Count; CAPACITY] = [0; CAPACITY];
@@ -343,6 +371,8 @@ fn main() {
     let mut chunk = io::large_buffer();
     let mut out = io::large_buffer();
     let ending = run(
+        &mut list,
+        &mut line,
         &mut starts,
         &mut sums,
         &mut max_starts,

@@ -1,33 +1,29 @@
 -- Demand 3 for the calls on lent numbers: it is the engine's, of what the numbers are read as.
 -- Assumes nothing.
-use Prim.Native.Nat.{ℕ, zero, suc, _-_}
-use mathlib.Core.Path.{_≡_, refl, sym, ap, ap₂, _∙_, subst}
+use Prim.Native.Nat.{ℕ, zero, suc}
+use mathlib.Core.Path.{_≡_, refl, sym, ap, _∙_, subst}
 use mathlib.Core.Bool.{Bool, true, false, false≢true, _||_}
-use mathlib.Core.List.{List, [], _∷_, _++_, map}
+use mathlib.Core.List.{List, [], _∷_, map}
 use borrow.Author.Tests.{eqb-true}
-use lib.Dec.{eqb}
+use lib.Dec.{eqb, leb}
 use lib.IntN.{ℤ}
-use lib.ListN.{length, take, replicate}
-use Rattle.window.specs.declared.query.Query.{Query}
+use lib.ListN.{length}
 use Rattle.window.specs.declared.refusal.Refusal.{Refusal}
 use Rattle.window.specs.declared.refusal.Refusal.the-variants.{TableTooShort, Damaged, CountExhausted, AnswersTooShort}
 use Rattle.window.specs.Refusals.{refusalNumber}
 use Rattle.window.specs.Calls.{Call, start, register, withdraw, reading, totals, Outcome, refused}
-use Rattle.window.specs.Model.{State, initial}
+use Rattle.window.specs.Lists.{any}
 use Rattle.window.proofs.Lists.{and-left, and-right}
-use Rattle.registry.specs.Records.{recordLimit, unused, occurs}
+use Rattle.registry.specs.Records.{Tidy}
 use Rattle.engine.specs.declared.calls.Answered.{Answered}
 use Rattle.engine.specs.declared.calls.Answered.the-variants.{Answers, Refused}
-use Rattle.engine.specs.Machine.{ListIs}
+use Rattle.engine.specs.Machine.{machineLong}
 use Rattle.engine.specs.Outcomes.{readingOutcome}
 use Rattle.engine.specs.Contracts.{Promise, InRows, Ensures, ReadingEnsures, StartEnsures}
 use Rattle.engine.specs.Demand3 as below
-use Rattle.engine.specs.Demand3.{machineLong}
-use Rattle.encoding.proofs.Copies.{numbers-are}
-use Rattle.encoding.proofs.Places.{room-list}
-use Rattle.engine.proofs.Carrying.{carried-run, carried-demand-3, carried-from-start, carried-live, carried-never-damaged}
-use Rattle.encoding.specs.Written.{listNumbers, numbersIn, roomFor}
-use Rattle.pchelodar_c.specs.Slices.{Slices, numbersLong, slicesLong, slicesMachine}
+use Rattle.engine.proofs.Carrying.{carried-demand-3, carried-from-start, carried-live, carried-never-damaged}
+use Rattle.encoding.specs.Written.{stateNumbers}
+use Rattle.pchelodar_c.specs.Slices.{Slices, stateLong, slicesLong, slicesMachine}
 use Rattle.pchelodar_c.specs.Contracts.{codeOutcome, readingCodeOutcome, totalsCodeOutcome, OnNumbers, ReadingOnNumbers, TotalsOnNumbers}
 use Rattle.pchelodar_c.specs.Demand3.{Returned, ReadingReturned, TotalsReturned, Performs, Demand3, FromStart, BoardLive, NeverDamaged, StartZeroes}
 
@@ -50,12 +46,12 @@ totals-performs before after code m e = record { before = before; after = after;
 -- ---- what a reading returned, from its code
 
 -- a number that stands among those of refusals is that of one
-numbered : (k : ℕ) (rs : List Refusal) → occurs k (map refusalNumber rs) ≡ true → (r : Refusal) × (refusalNumber r ≡ k)
+numbered : (k : ℕ) (rs : List Refusal) → any (eqb k) (map refusalNumber rs) ≡ true → (r : Refusal) × (refusalNumber r ≡ k)
 numbered k [] e = absurd (false≢true e)
 numbered k (r ∷ rs) e = go (numbered k rs) (eqb k (refusalNumber r)) refl e
   where
-    go : (occurs k (map refusalNumber rs) ≡ true → (x : Refusal) × (refusalNumber x ≡ k)) → (b : Bool) → eqb k (refusalNumber r) ≡ b
-        → (b || occurs k (map refusalNumber rs)) ≡ true → (x : Refusal) × (refusalNumber x ≡ k)
+    go : (any (eqb k) (map refusalNumber rs) ≡ true → (x : Refusal) × (refusalNumber x ≡ k)) → (b : Bool) → eqb k (refusalNumber r) ≡ b
+        → (b || any (eqb k) (map refusalNumber rs)) ≡ true → (x : Refusal) × (refusalNumber x ≡ k)
     go later true f i = (r, sym (eqb-true k (refusalNumber r) f))
     go later false f i = later i
 
@@ -70,16 +66,16 @@ answered v places (suc k) given after own =
 -- ---- one call
 
 -- slices that have room keep it
-still-long : {promise : Promise} {m m′ : Slices} {o : Outcome} → OnNumbers promise m o m′ → numbersLong m ≡ true → numbersLong m′ ≡ true
-still-long e l = ap₂ roomFor (e .state .asLong) (e .queries .asLong) ∙ l
+still-long : {promise : Promise} {m m′ : Slices} {o : Outcome} → OnNumbers promise m o m′ → stateLong m ≡ true → stateLong m′ ≡ true
+still-long e l = ap (leb stateNumbers) (e .state .asLong) ∙ l
 
 -- start, register and withdraw: what is promised of the code is so of the outcome
-returned : (promise : Promise) (m : Slices) (o : Outcome) (m′ : Slices) → numbersLong m ≡ true → Returned promise m o m′ → promise (slicesMachine m) o (slicesMachine m′) × (numbersLong m′ ≡ true)
+returned : (promise : Promise) (m : Slices) (o : Outcome) (m′ : Slices) → stateLong m ≡ true → Returned promise m o m′ → promise (slicesMachine m) o (slicesMachine m′) × (stateLong m′ ≡ true)
 returned promise m o m′ l e = (subst (λ (x : Outcome). promise (slicesMachine m) x (slicesMachine m′)) (sym (e .read)) (e .ensures .promised l), still-long (e .ensures) l)
 
 -- a reading
-reading-returned : (v : ℤ) (places : ℕ) (m : Slices) (o : Outcome) (m′ : Slices) → numbersLong m ≡ true → ReadingReturned v places m o m′
-    → below.Performs (reading v places) (slicesMachine m) o (slicesMachine m′) × (numbersLong m′ ≡ true)
+reading-returned : (v : ℤ) (places : ℕ) (m : Slices) (o : Outcome) (m′ : Slices) → stateLong m ≡ true → ReadingReturned v places m o m′
+    → below.Performs (reading v places) (slicesMachine m) o (slicesMachine m′) × (stateLong m′ ≡ true)
 reading-returned v places m o m′ l e =
     let p : ReadingEnsures v (e .before) (e .after) (slicesMachine m) (readingCodeOutcome (e .code) (e .given′) (e .after)) (slicesMachine m′) = e .ensures .onNumbers .promised l in
     let a = answered v (length (e .before)) (e .code) (e .given′) (e .after) (p .ensures .own) in (
@@ -95,14 +91,14 @@ reading-returned v places m o m′ l e =
     )
 
 -- totals
-totals-returned : (m : Slices) (o : Outcome) (m′ : Slices) → numbersLong m ≡ true → TotalsReturned m o m′
-    → Ensures totals (slicesMachine m) o (slicesMachine m′) × (numbersLong m′ ≡ true)
+totals-returned : (m : Slices) (o : Outcome) (m′ : Slices) → stateLong m ≡ true → TotalsReturned m o m′
+    → Ensures totals (slicesMachine m) o (slicesMachine m′) × (stateLong m′ ≡ true)
 totals-returned m o m′ l e =
-    subst (λ (n : Slices). Ensures totals (slicesMachine m) o (slicesMachine n) × (numbersLong n ≡ true)) (sym (e .same))
+    subst (λ (n : Slices). Ensures totals (slicesMachine m) o (slicesMachine n) × (stateLong n ≡ true)) (sym (e .same))
     (subst (λ (x : Outcome). Ensures totals (slicesMachine m) x (slicesMachine m)) (sym (e .read)) (e .ensures .onNumbers .promised l), l)
 
 -- a call on numbers is one of the engine's on what they are read as
-performs : (c : Call) (m : Slices) (o : Outcome) (m′ : Slices) → numbersLong m ≡ true → Performs c m o m′ → below.Performs c (slicesMachine m) o (slicesMachine m′) × (numbersLong m′ ≡ true)
+performs : (c : Call) (m : Slices) (o : Outcome) (m′ : Slices) → stateLong m ≡ true → Performs c m o m′ → below.Performs c (slicesMachine m) o (slicesMachine m′) × (stateLong m′ ≡ true)
 performs start m o m′ l e = returned StartEnsures m o m′ l e
 performs (register number kind range slide) m o m′ l e = returned (Ensures (register number kind range slide)) m o m′ l e
 performs (withdraw number) m o m′ l e = returned (Ensures (withdraw number)) m o m′ l e
@@ -111,20 +107,13 @@ performs totals m o m′ l e = totals-returned m o m′ l e
 
 -- ---- a list of calls
 
--- there is room for the numbers of state and query list
+-- there is room for the numbers of the state
 abbrev Room : Slices → Type 0
-Room m = numbersLong m ≡ true
+Room m = stateLong m ≡ true
 
--- so there is where check 1 passes, and the six tables are long enough
+-- so there is where check 1 passes, and the query list and the six tables are long enough
 opens : (m : Slices) → slicesLong m ≡ true → Room m × (machineLong (slicesMachine m) ≡ true)
-opens m l = (and-left (numbersLong m) _ l, and-right (numbersLong m) _ l)
-
--- the numbers of the query list, where it is read as the model's
-list-numbers : (s : State) (m : Slices) → numbersLong m ≡ true → ListIs s (slicesMachine m .queries)
-    → take listNumbers (m .queries) ≡ numbersIn (s .queries ++ replicate (recordLimit - length (s .queries)) unused)
-list-numbers s m l i =
-    numbers-are recordLimit (m .queries) (room-list _ (length (m .queries)) l)
-    ∙ ap numbersIn (i .tidy ∙ ap₂ (λ (qs : List Query) (n : ℕ). qs ++ replicate (recordLimit - n) unused) (i .used) (i .count))
+opens m l = (and-left (stateLong m) _ l, and-right (stateLong m) _ l)
 
 -- what came from a start represents the model's state
 pub from-start : FromStart
@@ -132,11 +121,7 @@ from-start = carried-from-start slicesMachine slicesLong Performs Room opens per
 
 -- demand 3
 pub demand-3 : Demand3
-demand-3 fresh f calls outcomes m p =
-    record {
-      agrees = carried-demand-3 slicesMachine slicesLong Performs Room opens performs fresh f calls outcomes m p;
-      listed = list-numbers _ m (carried-run slicesMachine slicesLong Performs Room opens performs fresh f calls outcomes m p .2) (from-start fresh f calls outcomes m p .queries);
-    }
+demand-3 = carried-demand-3 slicesMachine slicesLong Performs Room opens performs
 
 -- what came from a start has tables that hold what is live, and what stands of it
 pub from-start-live : BoardLive
@@ -156,9 +141,10 @@ accepted-long {promise} {m} e = go (slicesLong m) (e .short)
     go true short = refl
     go false short = let i : codeOutcome 0 ≡ refused 1 = short refl in cc
 
--- an accepted start leaves the query list 0
+-- an accepted start leaves the query list 0: it holds the records of no query, and what is unused is 0
 pub start-zeroes : StartZeroes
 start-zeroes m m′ e =
     let l : slicesLong m ≡ true = accepted-long e in
-    let room : numbersLong m ≡ true = and-left (numbersLong m) _ l in
-    list-numbers initial m′ (still-long e room) ((e .promised room .represents (and-right (numbersLong m) _ l)) .queries)
+    let room : stateLong m ≡ true = and-left (stateLong m) _ l in
+    let i = e .promised room .represents (and-right (stateLong m) _ l) .list in
+    subst (λ (k : ℕ). Tidy k (m′ .queries)) (i .count) (i .tidy)

@@ -7,11 +7,12 @@ use mathlib.Core.Bool.{true, false}
 use mathlib.Core.List.{List, [], _∷_}
 use lib.IntN.{ℤ}
 use Rattle.window.specs.Calls.{Outcome, accepted, refused, totals}
+use Rattle.registry.specs.Records.{ListKept}
 use Rattle.board.specs.Tables.{KeptBeyond}
 use Rattle.engine.specs.Answers.{answersIn}
 use Rattle.engine.specs.Contracts.{Promise, Ensures, ReadingEnsures, placesAfter}
-use Rattle.encoding.specs.Written.{stateNumbers, listNumbers}
-use Rattle.pchelodar_c.specs.Slices.{Slices, numbersLong, slicesLong, slicesMachine}
+use Rattle.encoding.specs.Written.{stateNumbers}
+use Rattle.pchelodar_c.specs.Slices.{Slices, stateLong, slicesLong, slicesMachine}
 
 -- ---- document 01's numbers and values for what the calls return: 0 is an acceptance, any other number the refusal's
 
@@ -35,15 +36,15 @@ totalsCodeOutcome (suc k) four = refused (suc k)
 
 -- a call on m came to o and left m′
 pub record OnNumbers (promise : Promise) (m : Slices) (o : Outcome) (m′ : Slices) : Type 0 where
-  -- check 1, on the state and all seven tables
+  -- check 1, on the state, the query list and the six tables
   pub short : slicesLong m ≡ false → o ≡ refused 1
-  -- with room for the numbers of state and query list: what the engine promises of what they are read as
-  pub promised : numbersLong m ≡ true → promise (slicesMachine m) o (slicesMachine m′)
+  -- with room for the numbers of the state: what the engine promises of what they are read as
+  pub promised : stateLong m ≡ true → promise (slicesMachine m) o (slicesMachine m′)
   -- a refused call changes nothing: no number of the state or of the query list, no table
   pub unchanged : (k : ℕ) → o ≡ refused k → m′ ≡ m
-  -- nothing beyond the 18 numbers of the state and the 160 of the query list is written
+  -- nothing beyond the 18 numbers of the state and the 192 of the query list is written
   pub state : KeptBeyond stateNumbers (m .state) (m′ .state)
-  pub queries : KeptBeyond listNumbers (m .queries) (m′ .queries)
+  pub queries : ListKept (m .queries) (m′ .queries)
 
 -- the reading v, with an answer table that held `before` and holds `after`, and a place for the number of answers that
 -- held `given` and holds `given′`

@@ -6,19 +6,16 @@
 -- numbers of their types `Performed` has a run for every such list of calls and all answer tables. (That the functions
 -- return is read off their proofs; it is no law stated here.)
 -- Assumes nothing.
-use Prim.Native.Nat.{ℕ, _-_}
+use Prim.Native.Nat.{ℕ}
 use mathlib.Core.Path.{_≡_}
-use mathlib.Core.List.{List, _++_}
+use mathlib.Core.List.{List}
 use lib.IntN.{ℤ}
-use lib.ListN.{length, take, replicate}
+use lib.ListN.{length}
 use Rattle.window.specs.Queries.{countLimit}
 use Rattle.window.specs.Calls.{Call, Outcome}
-use Rattle.window.specs.Model.{initial, Ran, run}
-use Rattle.registry.specs.Records.{recordLimit, unused}
+use Rattle.registry.specs.Records.{Tidy}
 use Rattle.engine.specs.Contracts.{Promise, StartEnsures}
-use Rattle.engine.specs.Demand3 as below
-use Rattle.engine.specs.Demand3.{PerformsOn, FromFresh, FromStartOn, BoardLiveOn, NeverDamagedOn}
-use Rattle.encoding.specs.Written.{listNumbers, numbersIn}
+use Rattle.engine.specs.Demand3.{PerformsOn, Demand3On, FromStartOn, BoardLiveOn, NeverDamagedOn}
 use Rattle.pchelodar_c.specs.Slices.{Slices, slicesLong, slicesMachine}
 use Rattle.pchelodar_c.specs.Contracts.{codeOutcome, readingCodeOutcome, totalsCodeOutcome, OnNumbers, ReadingOnNumbers, TotalsOnNumbers}
 
@@ -59,15 +56,9 @@ pub record TotalsReturned (m : Slices) (o : Outcome) (m′ : Slices) : Type 0 wh
 abbrev pub Performs : Call → Slices → Outcome → Slices → Type 0
 Performs c m o m′ = PerformsOn countLimit Returned ReadingReturned TotalsReturned c m o m′
 
--- a run that came to the outcomes os and left m, against the model's run r of the same calls
-pub record AgreesWith (r : Ran) (os : List Outcome) (m : Slices) : Type 0 where
-  pub agrees : below.AgreesWith slicesMachine slicesLong Performs r os m
-  -- the queries as the caller finds them: the 160 numbers are those of the queries in order, and 0 after them
-  pub listed : take listNumbers (m .queries) ≡ numbersIn (r .state .queries ++ replicate (recordLimit - length (r .state .queries)) unused)
-
--- the claim about the whole list
+-- the claim about the whole list; the queries are read from the lent list as it stands, and what is unused in it is 0
 abbrev pub Demand3 : Type 0
-Demand3 = FromFresh slicesMachine slicesLong Performs (λ (calls : List Call) (outcomes : List Outcome) (m : Slices). AgreesWith (run initial calls) outcomes m)
+Demand3 = Demand3On slicesMachine slicesLong Performs
 
 -- what stands beside it
 abbrev pub FromStart : Type 0
@@ -79,6 +70,6 @@ BoardLive = BoardLiveOn slicesMachine slicesLong Performs
 abbrev pub NeverDamaged : Type 0
 NeverDamaged = NeverDamagedOn slicesMachine slicesLong Performs
 
--- and a start that returned 0 left the 160 numbers of the query list 0
+-- and a start that returned 0 left all records of the query list, and its places by number, 0
 abbrev pub StartZeroes : Type 0
-StartZeroes = (m m′ : Slices) → OnNumbers StartEnsures m (codeOutcome 0) m′ → take listNumbers (m′ .queries) ≡ replicate listNumbers 0
+StartZeroes = (m m′ : Slices) → OnNumbers StartEnsures m (codeOutcome 0) m′ → Tidy 0 (m′ .queries)

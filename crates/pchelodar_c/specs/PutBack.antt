@@ -8,28 +8,25 @@ use lib.ListN.{take}
 use Rattle.window.specs.declared.refusal.Refusal.{Refusal}
 use Rattle.window.specs.declared.refusal.Verdict.the-variants.{Passed, Refused}
 use Rattle.window.specs.Refusals.{refusalNumber}
-use Rattle.registry.specs.Records.{recordLimit}
 use Rattle.board.specs.Tables.{KeptBeyond}
 use Rattle.engine.specs.declared.calls.Reply.{Reply}
 use Rattle.engine.specs.declared.calls.ReadingReply.{ReadingReply}
 use Rattle.engine.specs.declared.calls.Answered.the-variants as answered
 use Rattle.engine.specs.declared.calls.TotalsReply.{TotalsReply}
 use Rattle.engine.specs.declared.calls.TotalsReply.the-variants as totals
-use Rattle.encoding.specs.Written.{stateNumbers, stateOf, registeredIn, listNumbers, recordsIn}
+use Rattle.encoding.specs.Written.{stateNumbers, stateOf}
 
--- of a reply to start, register or withdraw, to a state of the numbers w and a query list of the numbers ns: nothing
--- where the call was refused, and else what is read again as the reply
-pub data PutBack (reply : Reply) (w ns : List ℕ) : ℕ → List ℕ → List ℕ → Type 0 where
-  nothingBack : (refusal : Refusal) → reply .verdict ≡ Refused refusal → PutBack reply w ns (refusalNumber refusal) w ns
-  allBack : {w′ ns′ : List ℕ} → reply .verdict ≡ Passed
-      → stateOf (take stateNumbers w′) ≡ reply .state → registeredIn (take stateNumbers w′) ≡ reply .queries .count → recordsIn recordLimit ns′ ≡ reply .queries .records
-      → KeptBeyond stateNumbers w w′ → KeptBeyond listNumbers ns ns′ → PutBack reply w ns 0 w′ ns′
+-- of a reply to start, register or withdraw, to a state of the numbers w: nothing where the call was refused, and else
+-- what is read again as the reply's state
+pub data PutBack (reply : Reply) (w : List ℕ) : ℕ → List ℕ → Type 0 where
+  nothingBack : (refusal : Refusal) → reply .verdict ≡ Refused refusal → PutBack reply w (refusalNumber refusal) w
+  allBack : {w′ : List ℕ} → reply .verdict ≡ Passed → stateOf (take stateNumbers w′) ≡ reply .state → KeptBeyond stateNumbers w w′ → PutBack reply w 0 w′
 
--- of a reply to a reading, to a state of the numbers w and a place for the number of answers: no query joins or leaves
+-- of a reply to a reading, to a state of the numbers w and a place for the number of answers
 pub data ReadingBack (reply : ReadingReply) (w : List ℕ) (given : ℕ) : ℕ → List ℕ → ℕ → Type 0 where
   refusedBack : (refusal : Refusal) → reply .outcome ≡ answered.Refused refusal → ReadingBack reply w given (refusalNumber refusal) w given
   stateBack : {w′ : List ℕ} (k : ℕ) → reply .outcome ≡ answered.Answers k
-      → stateOf (take stateNumbers w′) ≡ reply .state → registeredIn (take stateNumbers w′) ≡ registeredIn (take stateNumbers w) → KeptBeyond stateNumbers w w′ → ReadingBack reply w given 0 w′ k
+      → stateOf (take stateNumbers w′) ≡ reply .state → KeptBeyond stateNumbers w w′ → ReadingBack reply w given 0 w′ k
 
 -- of a reply to totals, to four places that held `before`
 pub data TotalsBack (reply : TotalsReply) (before : List ℕ) : ℕ → List ℕ → Type 0 where

@@ -1,9 +1,6 @@
-// The five calls by their names in C, on lent slices of numbers alone: no allocation, nothing global. Each returns 0
-// where it is accepted, and else the number of the refusal.
-use encoding::list::load_list;
-use encoding::list::store_list;
-use encoding::room::room_for;
-use encoding::state::load_registered;
+// The five calls by their names in C, on lent slices of numbers alone, the query list as it stands: no allocation,
+// nothing global. Each returns 0 where it is accepted, and else the number of the refusal.
+use encoding::state::STATE_NUMBERS;
 use encoding::state::load_state;
 use encoding::state::store_state;
 use engine::calls;
@@ -22,12 +19,12 @@ ghost use Rattle.window.specs.Refusals.{refusalNumber};
 ghost use Rattle.window.specs.Calls.{register, withdraw};
 ghost use Rattle.board.specs.Tables.{tables};
 ghost use Rattle.engine.specs.Contracts.{StartEnsures, Ensures};
-ghost use Rattle.encoding.specs.Written.{stateNumbers, listNumbers};
+ghost use Rattle.encoding.specs.Written.{stateNumbers};
 ghost use Rattle.pchelodar_c.specs.Slices.{slices};
 ghost use Rattle.pchelodar_c.specs.Contracts.{codeOutcome, readingCodeOutcome, totalsCodeOutcome, OnNumbers, ReadingOnNumbers, TotalsOnNumbers};
 ghost use Rattle.pchelodar_c.specs.PutBack.{PutBack, ReadingBack, TotalsBack};
 
-// The number of the refusal where there is no room for the numbers of a state and of a query list.
+// The number of the refusal where there is no room for the numbers of a state.
 fn no_room() -> u32
     ensures { λ r. ⌜ r ≡ refusalNumber Refusal.TableTooShort ⌝ }
 {
@@ -35,19 +32,16 @@ fn no_room() -> u32
     refusal.number()
 }
 
-// What start, register or withdraw came to is put back, where it was accepted.
-fn put_back(reply: Reply, state: &mut [u64], queries: &mut [u32]) -> u32
-    requires { ⌜ (stateNumbers ≤ length (now state)) × (listNumbers ≤ length (now queries)) ⌝ }
-    ensures { λ r. ⌜ PutBack reply (now (state .entry)) (now (queries .entry)) r (now (state .exit)) (now (queries .exit)) ⌝ }
+// The state after a start, a registration or a withdrawal is put back, where it was accepted.
+fn put_back(reply: Reply, state: &mut [u64]) -> u32
+    requires { ⌜ stateNumbers ≤ length (now state) ⌝ }
+    ensures { λ r. ⌜ PutBack reply (now (state .entry)) r (now (state .exit)) ⌝ }
 {
     let verdict = reply.verdict;
     match verdict {
         Verdict::Refused(refusal) => refusal.number(),
         Verdict::Passed => {
-            let list = reply.queries;
-            let records = list.records;
-            store_list(queries, records);
-            store_state(state, reply.state, list.count);
+            store_state(state, reply.state);
             0
         }
     }
@@ -62,8 +56,7 @@ fn put_reading_back(reply: ReadingReply, state: &mut [u64], answered: &mut usize
     match outcome {
         Answered::Refused(refusal) => refusal.number(),
         Answered::Answers(given) => {
-            let registered = load_registered(state);
-            store_state(state, reply.state, registered);
+            store_state(state, reply.state);
             *answered = given;
             0
         }
@@ -101,13 +94,13 @@ pub extern "C" fn pchelodar_start(
         (codeOutcome r)
         (slices (now (state .exit)) (now (queries .exit)) (tables (now (starts .exit)) (now (sums .exit)) (now («max_starts» .exit)) (now («max_values» .exit)) (now («min_starts» .exit)) (now («min_values» .exit)))) ⌝ }
 {
-    if !room_for(state.len(), queries.len()) {
+    if state.len() < STATE_NUMBERS {
         return no_room();
     }
     put_back(
         calls::start(
             load_state(state),
-            load_list(queries, state),
+            queries,
             starts,
             sums,
             max_starts,
@@ -116,7 +109,6 @@ pub extern "C" fn pchelodar_start(
             min_values,
         ),
         state,
-        queries,
     )
 }
 
@@ -141,13 +133,13 @@ pub extern "C" fn pchelodar_register(
         (codeOutcome r)
         (slices (now (state .exit)) (now (queries .exit)) (tables (now (starts .exit)) (now (sums .exit)) (now («max_starts» .exit)) (now («max_values» .exit)) (now («min_starts» .exit)) (now («min_values» .exit)))) ⌝ }
 {
-    if !room_for(state.len(), queries.len()) {
+    if state.len() < STATE_NUMBERS {
         return no_room();
     }
     put_back(
         calls::register(
             load_state(state),
-            load_list(queries, state),
+            queries,
             starts,
             sums,
             max_starts,
@@ -160,7 +152,6 @@ pub extern "C" fn pchelodar_register(
             slide,
         ),
         state,
-        queries,
     )
 }
 
@@ -182,13 +173,13 @@ pub extern "C" fn pchelodar_withdraw(
         (codeOutcome r)
         (slices (now (state .exit)) (now (queries .exit)) (tables (now (starts .entry)) (now (sums .entry)) (now («max_starts» .entry)) (now («max_values» .entry)) (now («min_starts» .entry)) (now («min_values» .entry)))) ⌝ }
 {
-    if !room_for(state.len(), queries.len()) {
+    if state.len() < STATE_NUMBERS {
         return no_room();
     }
     put_back(
         calls::withdraw(
             load_state(state),
-            load_list(queries, state),
+            queries,
             starts,
             sums,
             max_starts,
@@ -198,7 +189,6 @@ pub extern "C" fn pchelodar_withdraw(
             number,
         ),
         state,
-        queries,
     )
 }
 
@@ -223,13 +213,13 @@ pub extern "C" fn pchelodar_reading(
         (readingCodeOutcome r (now (answered .exit)) (now (answers .exit)))
         (slices (now (state .exit)) (now (queries .entry)) (tables (now (starts .exit)) (now (sums .exit)) (now («max_starts» .exit)) (now («max_values» .exit)) (now («min_starts» .exit)) (now («min_values» .exit)))) ⌝ }
 {
-    if !room_for(state.len(), queries.len()) {
+    if state.len() < STATE_NUMBERS {
         return no_room();
     }
     put_reading_back(
         calls::reading(
             load_state(state),
-            load_list(queries, state),
+            queries,
             starts,
             sums,
             max_starts,
@@ -261,13 +251,13 @@ pub extern "C" fn pchelodar_totals(
         (slices (now (state .entry)) (now (queries .entry)) (tables (now (starts .entry)) (now (sums .entry)) (now («max_starts» .entry)) (now («max_values» .entry)) (now («min_starts» .entry)) (now («min_values» .entry))))
         (totalsCodeOutcome r (now (totals .exit))) ⌝ }
 {
-    if !room_for(state.len(), queries.len()) {
+    if state.len() < STATE_NUMBERS {
         return no_room();
     }
     put_totals(
         calls::totals(
             load_state(state),
-            load_list(queries, state),
+            queries,
             starts,
             sums,
             max_starts,

@@ -12,7 +12,7 @@ use borrow.Author.Tests.{ltb-true}
 use Rattle.window.specs.declared.query.Query.{Query}
 use Rattle.window.specs.Refusals.{hasNumber, isRegistered}
 use Rattle.window.proofs.Lists.{length-filter}
-use Rattle.registry.specs.declared.queries.Found.{Found}
+use Rattle.registry.specs.declared.find.Found.{Found}
 use Rattle.registry.specs.Records.{recordLimit, placeOf}
 use Rattle.records.specs.declared.edited.Edited.{Edited}
 use Rattle.records.specs.Edited.{same, usedIn, appendedTo, withdrawnFrom}

@@ -1,6 +1,8 @@
 pub mod Editing
 pub mod Leaving
+pub mod Laying
 pub mod Steps
+pub mod Giving
 pub mod Local
 pub mod Lists
 pub mod Counting

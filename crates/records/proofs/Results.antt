@@ -16,10 +16,10 @@ use mir.Syntax.{w64}
 use denote.Plain.{uint-vals}
 use denote.Builtin.{usize}
 use Rattle.records.proofs.Rows.{L, l-vals, l-field}
-use Rattle.registry.specs.declared.queries.Found.{Found}
+use Rattle.registry.specs.declared.find.Found.{Found}
 use Rattle.records.specs.declared.edited.Edited.{Edited}
-use Rattle.registry.proofs.queries.Found as Found-type
-use Rattle.registry.proofs.queries.Found.Laws as Found-laws
+use Rattle.registry.proofs.find.Found as Found-type
+use Rattle.registry.proofs.find.Found.Laws as Found-laws
 use Rattle.records.proofs.edited.Edited as Edited-type
 use Rattle.records.proofs.edited.Edited.Laws as Edited-laws
 

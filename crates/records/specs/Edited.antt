@@ -19,14 +19,19 @@ usedIn list places count = take (min (min places recordLimit) count) list
 abbrev pub same : List Query → ℕ → Edited
 same list count = record { count = count; list = list; write = 0 }
 
+-- all records are put back
+abbrev pub changed : List Query → ℕ → Edited
+changed list count = record { count = count; list = list; write = recordLimit }
+
+-- these records are left, and what follows them is unused
+abbrev pub leftOf : List Query → Edited
+leftOf qs = changed (filledUp qs) (length qs)
+
 -- the record q joins, where there is a place
 abbrev pub appendedTo : List Query → ℕ → ℕ → Query → Edited
-appendedTo list places count q =
-    cond (ltb count (min places recordLimit)) (record { count = count + 1; list = set list count q; write = recordLimit }) (same list count)
+appendedTo list places count q = cond (ltb count (min places recordLimit)) (changed (set list count q) (count + 1)) (same list count)
 
 -- what has this number leaves, where it is a used one
 abbrev pub withdrawnFrom : List Query → ℕ → ℕ → ℕ → Edited
 withdrawnFrom list places count number =
-    cond (isRegistered number (usedIn list places count))
-    (record { count = length (without number (usedIn list places count)); list = filledUp (without number (usedIn list places count)); write = recordLimit })
-    (same list count)
+    cond (isRegistered number (usedIn list places count)) (leftOf (without number (usedIn list places count))) (same list count)

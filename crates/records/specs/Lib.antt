@@ -1,2 +1,3 @@
 pub mod LentList
 pub mod Edited
+pub mod Laid

@@ -1,6 +1,5 @@
 // The first 32 records of the lent query list, copied to an array and put back.
-use registry::queries::RECORDS;
-use registry::queries::unused;
+use registry::list::RECORDS;
 use window::query::Query;
 ghost use mathlib.Core.Path.{_≡_};
 ghost use Prim.Native.Nat.{_<_, min};
@@ -8,8 +7,21 @@ ghost use lib.ListN.{getD, take, replicate};
 ghost use Rattle.registry.specs.Records.{recordLimit, unused};
 ghost use Rattle.records.specs.LentList.{firstRecords, overwritten};
 
+// A record that is not used: all 0.
+fn unused() -> Query
+    ensures { λ r. ⌜ r ≡ unused ⌝ }
+{
+    Query {
+        number: 0,
+        kind: 0,
+        range: 0,
+        slide: 0,
+        origin: 0,
+    }
+}
+
 // An array of unused records.
-fn none() -> [Query; 32]
+pub fn none() -> [Query; 32]
     ensures { λ r. ⌜ r ≡ replicate recordLimit unused ⌝ }
 {
     [unused(); 32]

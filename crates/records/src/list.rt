@@ -3,7 +3,7 @@
 use crate::copy::load;
 use crate::copy::store;
 use crate::edited;
-use registry::queries::Found;
+use registry::find::Found;
 use window::query::Query;
 ghost use mathlib.Core.Path.{_≡_};
 ghost use Rattle.registry.specs.Records.{placeOf};

@@ -5,12 +5,13 @@ use mathlib.Core.Bool.{Bool, true, false, cond, _||_}
 use mathlib.Core.List.{List, [], _∷_}
 use Prim.Native.Nat.{ℕ, _+_, _≤_, _<_}
 use native.Mathlib.Omega.{arith}
-use lib.ListN.{length, getD, take, drop}
+use lib.ListN.{drop}
+use borrow.Author.Tests.{eq-eqb, ne-eqb}
 use Rattle.window.specs.declared.query.Query.{Query}
 use Rattle.window.specs.Refusals.{hasNumber, isRegistered}
-use Rattle.registry.specs.declared.queries.Found.{Found}
-use Rattle.registry.specs.declared.queries.Found.the-variants.{At, Absent}
-use Rattle.registry.specs.Records.{laterBy, placeOf}
+use Rattle.registry.specs.declared.find.Found.{Found}
+use Rattle.registry.specs.declared.find.Found.the-variants.{At, Absent}
+use Rattle.registry.specs.Records.{numberAt, used, laterBy, placeOf}
 use Rattle.registry.proofs.Scans.{rest-cons, rest-ended}
 
 -- no place later is the same place
@@ -23,25 +24,26 @@ later-twice : (j k : ℕ) (f : Found) → laterBy j (laterBy k f) ≡ laterBy (j
 later-twice j k (At i) = ap At (omega arith)
 later-twice j k Absent = refl
 
-module _ (number : ℕ) (xs : List Query) (c i : ℕ) where
+module _ (number k : ℕ) (l : List ℕ) where
   -- where the query is looked for from place i on
   abbrev pub placeFrom : ℕ → Found
-  placeFrom k = laterBy k (placeOf number (drop k (take c xs)))
+  placeFrom i = laterBy i (placeOf number (drop i (used k l)))
 
-  module _ (d : Query) (l : i < c) (w : c ≤ length xs) where
-    -- it stands at place i
-    pub place-found : hasNumber number (getD xs i d) ≡ true → placeFrom i ≡ At i
-    place-found e = ap (λ (qs : List Query). laterBy i (placeOf number qs)) (rest-cons xs c i d l w) ∙ rw e (ap At (omega arith))
+  module _ (i : ℕ) where
+    module _ (inside : i < k) where
+      -- it stands at place i
+      pub place-found : number ≡ numberAt l i → placeFrom i ≡ At i
+      place-found e = ap (λ (qs : List Query). laterBy i (placeOf number qs)) (rest-cons k l i inside) ∙ rw (eq-eqb number (numberAt l i) e) (ap At (omega arith))
 
-    -- it does not, and is looked for from the next place on
-    pub place-next : hasNumber number (getD xs i d) ≡ false → placeFrom i ≡ placeFrom (i + 1)
-    place-next e =
-        ap (λ (qs : List Query). laterBy i (placeOf number qs)) (rest-cons xs c i d l w)
-        ∙ rw e (later-twice i 1 (placeOf number (drop (i + 1) (take c xs))))
+      -- it does not, and is looked for from the next place on
+      pub place-next : (number ≡ numberAt l i → ⊥) → placeFrom i ≡ placeFrom (i + 1)
+      place-next e =
+          ap (λ (qs : List Query). laterBy i (placeOf number qs)) (rest-cons k l i inside)
+          ∙ rw (ne-eqb number (numberAt l i) e) (later-twice i 1 (placeOf number (drop (i + 1) (used k l))))
 
-  -- no place is left
-  pub place-ended : c ≤ i → placeFrom i ≡ Absent
-  place-ended l = ap (λ (qs : List Query). laterBy i (placeOf number qs)) (rest-ended xs c i l)
+    -- no place is left
+    pub place-ended : k ≤ i → placeFrom i ≡ Absent
+    place-ended ended = ap (λ (qs : List Query). laterBy i (placeOf number qs)) (rest-ended k l i ended)
 
 -- whether there is a place
 abbrev pub isAt : Found → Bool

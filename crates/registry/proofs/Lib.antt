@@ -1,7 +1,13 @@
 pub mod Intact
 pub mod Scans
-pub mod Joining
-pub mod Damage
+pub mod Masks
 pub mod Verdicts
 pub mod Finding
-pub mod Looking
+pub mod Tabulating
+pub mod Laying
+pub mod Ordering
+pub mod Greatest
+pub mod Passing
+pub mod Shifting
+pub mod Clearing
+pub mod Joining

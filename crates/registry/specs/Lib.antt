@@ -1,2 +1,3 @@
 pub mod Records
-pub mod Looks
+pub mod Edits
+pub mod Fields

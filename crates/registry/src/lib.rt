@@ -1,5 +1,8 @@
-// The list of registered queries, by value, and what is judged on it: the checks of the calls, where windows have an
-// edge, which queries are due.
-pub mod queries; // the list: its records, a query that joins, a query that leaves
-pub mod scan; // one look at every registered query: horizon, edges, due queries
-pub mod checks; // check 2 on the records, and checks 3 to 11
+// The list of registered queries, lent as numbers, and what is judged on it: the checks of the calls, where windows
+// have an edge, which queries are due.
+pub mod list; // the list: where its records stand
+pub mod find; // where a query stands in it
+pub mod edit; // a query joins, a query leaves
+pub mod scan; // a look at every registered query: edges, horizon, due queries
+pub mod bits; // the fields of many records, tested at once
+pub mod checks; // check 2 on the list, and checks 3 to 11

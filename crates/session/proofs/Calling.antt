@@ -23,15 +23,16 @@ use Rattle.engine.specs.Outcomes.{verdictOutcome, readingOutcome}
 use Rattle.engine.specs.Contracts.{Ensures, placesAfter, ReadingEnsures}
 use Rattle.engine.proofs.Places.{places-length}
 use Rattle.board.proofs.Lending.{tables-same}
+use Rattle.registry.proofs.Laying.{kept-same}
 use Rattle.parse.specs.declared.line.Line.{Line}
 use Rattle.session.specs.Meaning.{answerTable, lineStep}
 use Rattle.session.specs.declared.call.Called.{Called}
 use Rattle.session.specs.Contracts.{noAnswers, withoutAnswers, Within, CallEnsures}
 
 -- what a call came to, as its parts are put together
-pub called-as : {line : Line} {m : Machine} {t : List ℤ} {after : Tables} {c d : Called} → c ≡ d → CallEnsures line m (d .outcome) t (machine (d .state) (d .queries) after)
-    → CallEnsures line m (c .outcome) t (machine (c .state) (c .queries) after)
-called-as {line} {m} {t} {after} is p = subst (λ (x : Called). CallEnsures line m (x .outcome) t (machine (x .state) (x .queries) after)) (sym is) p
+pub called-as : {line : Line} {m : Machine} {t : List ℤ} {list : List ℕ} {after : Tables} {c d : Called} → c ≡ d → CallEnsures line m (d .outcome) t (machine (d .state) list after)
+    → CallEnsures line m (c .outcome) t (machine (c .state) list after)
+called-as {line} {m} {t} {list} {after} is p = subst (λ (x : Called). CallEnsures line m (x .outcome) t (machine (x .state) list after)) (sym is) p
 
 -- ---- registrations and withdrawals
 
@@ -53,19 +54,20 @@ done c line m m′ v t e p =
       agrees = λ s h. verdict-outcome v t ∙ p .agrees s h ∙ sym (ap (λ (x : model.Stepped). x .outcome) (e s));
       represents = λ s h. rw (e s) (p .represents s h);
       unchanged = λ k q. p .unchanged k (sym (verdict-outcome v t) ∙ q);
+      listKept = p .listKept;
       kept = p .kept;
     }
 
-module _ (m : Machine) (reply : Reply) (called : Called) (t : List ℤ) (after : Tables) (is : called ≡ withoutAnswers reply) where
+module _ (m : Machine) (reply : Reply) (called : Called) (t : List ℤ) (list : List ℕ) (after : Tables) (is : called ≡ withoutAnswers reply) where
   pub registered : {number kind range slide : ℕ} {line : Line} → line ≡ Line.Register number kind range slide
-      → Ensures (register number kind range slide) m (verdictOutcome (reply .verdict)) (machine (reply .state) (reply .queries) after)
-      → CallEnsures line m (called .outcome) t (machine (called .state) (called .queries) after)
+      → Ensures (register number kind range slide) m (verdictOutcome (reply .verdict)) (machine (reply .state) list after)
+      → CallEnsures line m (called .outcome) t (machine (called .state) list after)
   unfolding lineStep
   registered {number} {kind} {range} {slide} e p = rw (e, is) (done (register number kind range slide) _ m _ (reply .verdict) t (λ s. refl) p)
 
   pub withdrawn : {number : ℕ} {line : Line} → line ≡ Line.Withdraw number
-      → Ensures (withdraw number) m (verdictOutcome (reply .verdict)) (machine (reply .state) (reply .queries) after)
-      → CallEnsures line m (called .outcome) t (machine (called .state) (called .queries) after)
+      → Ensures (withdraw number) m (verdictOutcome (reply .verdict)) (machine (reply .state) list after)
+      → CallEnsures line m (called .outcome) t (machine (called .state) list after)
   unfolding lineStep
   withdrawn {number} e p = rw (e, is) (done (withdraw number) _ m _ (reply .verdict) t (λ s. refl) p)
 
@@ -90,6 +92,7 @@ taken v m m′ o before after p q =
       agrees = q .agrees;
       represents = q .represents;
       unchanged = q .unchanged;
+      listKept = q .listKept;
       kept = q .kept;
     }
 
@@ -103,4 +106,4 @@ read {v} {v′} {m} {m′} {o} {before} {after} e same long p =
 pub not-called : {r : Refusal} {m : Machine} {t : List ℤ} {line : Line} → line ≡ Line.Refused r → CallEnsures line m (answered.Refused r) t m
 unfolding lineStep
 not-called {r} {m} {t} e =
-    rw e (record { within = tt; agrees = λ s h. refl; represents = λ s h. h; unchanged = λ k q. refl; kept = tables-same (m .tables) })
+    rw e (record { within = tt; agrees = λ s h. refl; represents = λ s h. h; unchanged = λ k q. refl; listKept = kept-same (m .list); kept = tables-same (m .tables) })

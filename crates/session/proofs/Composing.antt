@@ -9,11 +9,11 @@ use lib.Dec.{ltb}
 use borrow.Author.Tests.{ltb-true, ltb-false}
 use lib.ListN.{length, take, length-append}
 use lib.Seq.{slice, slice-empty, take-all}
-use Rattle.board.specs.Tables.{Tables, tablesLong}
+use Rattle.parse.specs.Kept.{keptLength}
 use Rattle.parse.proofs.Slices.{slice-then}
 use Rattle.session.specs.Meaning.{lineRoom}
 use Rattle.session.specs.Stream.{Running, opened, fedAll}
-use Rattle.session.specs.Contracts.{Held, Shown, Says, lineLimit, OpenEnsures, FeedEnsures, finishRoom, FinishEnsures}
+use Rattle.session.specs.Contracts.{Held, Shown, Says, lineLimit, Lent, lentLong, OpenEnsures, FeedEnsures, finishRoom, FinishEnsures}
 use Rattle.session.specs.Whole.{Fed, none, more, Reached, ReachedLimit, Carries, CarriesLimit, RanAll}
 use Rattle.session.proofs.Streaming.{lines-few}
 use Rattle.session.proofs.Whole.{reached-shown}
@@ -45,15 +45,16 @@ progress {chunk} {old} {new} {from} {to} {filled} {h} {h′} r f sh room byte nu
 -- ---- a program's turns
 
 -- opened
-pub reached-first : {t : Tables} {h : Held} → tablesLong t ≡ true → OpenEnsures t h → Reached t [] h
-reached-first {t} {h} long o = record { text = []; begun = record { lent = t; long = long; first = h; opens = o; feeds = none }; on = refl }
+pub reached-first : {t : Lent} {h : Held} → lentLong t ≡ true → keptLength ≤ length (h .line) → OpenEnsures t h → Reached t [] h
+reached-first {t} {h} long room o =
+    record { text = []; begun = record { lent = t; long = long; first = h; opens = o; room = room; feeds = none }; on = refl }
 
 -- input that is equal to this
-reached-as : {t : Tables} {xs ys : List ℕ} {h : Held} → xs ≡ ys → Reached t xs h → Reached t ys h
+reached-as : {t : Lent} {xs ys : List ℕ} {h : Held} → xs ≡ ys → Reached t xs h → Reached t ys h
 reached-as {t} {xs} {ys} {h} e p = subst (λ (l : List ℕ). Reached t l h) e p
 
 -- one call more
-reached-then : {t : Tables} {chunk old new input : List ℕ} {from to filled : ℕ} {h h′ : Held} → Reached t input h → FeedEnsures chunk from h old h′ to new filled
+reached-then : {t : Lent} {chunk old new input : List ℕ} {from to filled : ℕ} {h h′ : Held} → Reached t input h → FeedEnsures chunk from h old h′ to new filled
     → Reached t (input ++ slice from to chunk) h′
 reached-then {t} {chunk} {old} {new} {input} {from} {to} {filled} {h} {h′} p f =
     record {
@@ -63,6 +64,7 @@ reached-then {t} {chunk} {old} {new} {input} {from} {to} {filled} {h} {h′} p f
         long = p .begun .long;
         first = p .begun .first;
         opens = p .begun .opens;
+        room = p .begun .room;
         feeds = fed-then (p .begun .feeds) (fed-as (append-nil (slice from to chunk)) (append-nil (take filled new)) (more f none));
       };
       on = p .on;
@@ -85,7 +87,7 @@ pub carries-next : {chunk old new : List ℕ} {from to filled : ℕ} {h₀ h h�
     → Carries (slice 0 to chunk) h₀ h′
 carries-next {chunk} {old} {new} {from} {to} {filled} {h₀} {h} {h′} l p f = record { on = on }
   where
-    on : (t : Tables) (input : List ℕ) → Reached t input h₀ → Reached t (input ++ slice 0 to chunk) h′
+    on : (t : Lent) (input : List ℕ) → Reached t input h₀ → Reached t (input ++ slice 0 to chunk) h′
     on t input q =
         reached-as
         (append-assoc input (slice 0 from chunk) (slice from to chunk) ∙ ap (λ (l : List ℕ). input ++ l) (slice-then 0 from to chunk (omega arith) (f .taken .onward) (f .taken .inside l)))
@@ -113,7 +115,7 @@ pub limit-stopped : {chunk old new : List ℕ} {from to filled : ℕ} {h₀ h h�
     → Carries (slice 0 from chunk) h₀ h → FeedEnsures chunk from h old h′ to new filled → CarriesLimit h₀ h′
 limit-stopped {chunk} {old} {new} {from} {to} {filled} {h₀} {h} {h′} room byte still p f = record { on = on }
   where
-    on : (t : Tables) (input : List ℕ) → Reached t input h₀ → ReachedLimit t h′
+    on : (t : Lent) (input : List ℕ) → Reached t input h₀ → ReachedLimit t h′
     on t input q =
         let before : Reached t (input ++ slice 0 from chunk) h = p .on t input q in
         let shown : Shown ((fedAll opened (input ++ slice 0 from chunk)) .running) h = reached-shown before in
@@ -128,7 +130,7 @@ limit-stopped {chunk} {old} {new} {from} {to} {filled} {h₀} {h} {h′} room by
         at-limit false e sh = ltb-false (h .session .lines) lineLimit e
 
 -- finished
-pub ran-all : {t left : Tables} {h : Held} {input old new : List ℕ} {filled : ℕ} → finishRoom ≤ length old → Reached t input h → FinishEnsures h old left new filled
+pub ran-all : {t left : Lent} {h : Held} {input old new : List ℕ} {filled : ℕ} → finishRoom ≤ length old → Reached t input h → FinishEnsures h old left new filled
     → RanAll input t left new
 ran-all {t} {left} {h} {input} {old} {new} {filled} room p f =
     record {

@@ -12,14 +12,13 @@ use lib.IntN.{ℤ}
 use lib.ListN.{length, getD, take, drop, length-drop}
 use lib.Seq.{slice, slice-empty, take-suc, length-take-le, drop-append-le, getD-drop}
 use Rattle.window.specs.Calls.{Outcome}
-use Rattle.window.specs.Model as model
 use Rattle.window.specs.Model.{count}
 use Rattle.board.specs.Tables.{Tables}
-use Rattle.engine.specs.Machine.{machine, Represents}
+use Rattle.engine.specs.Machine.{Machine, machine, Represents}
 use Rattle.engine.specs.Outcomes.{readingOutcome}
 use Rattle.board.proofs.Lending.{tables-same, tables-then}
+use Rattle.registry.proofs.Laying.{kept-same, kept-then}
 use Rattle.parse.specs.declared.line.Line.{Line}
-use Rattle.parse.specs.declared.kept.Kept.{Kept}
 use Rattle.parse.specs.Fields.{until}
 use Rattle.parse.specs.Lines.{parsed}
 use Rattle.parse.specs.Kept.{keptLength, keptLine}
@@ -31,58 +30,40 @@ use Rattle.session.specs.declared.call.Called.{Called}
 use Rattle.session.specs.declared.stream.Session.{Session}
 use Rattle.session.specs.declared.stream.Taken.{Taken}
 use Rattle.session.specs.declared.stream.Ended.{Ended}
-use Rattle.session.specs.Meaning.{answerTable, lineStep, printed, lineRoom}
+use Rattle.session.specs.Meaning.{answerTable, lineStep, printed, Position, lineReported, lineRoom}
 use Rattle.session.specs.Stream.{Running, Streamed, lineEnded, lineExtended, fed, following, fedAll}
-use Rattle.session.specs.Contracts.{CallEnsures, Held, held, keeping, NewLine, LongerEnsures, Shown, Says, lineLimit, LineEnsures, Streams, RestEnsures, NothingDone}
+use Rattle.session.specs.Contracts.{CallEnsures, Held, held, HeldKept, newLine, keeping, Shown, Says, lineLimit, LineEnsures, Streams, RestEnsures}
 use Rattle.session.proofs.Streaming.{fed-append}
 
 -- ---- a line ends
 
-module _ (s s′ : Session) (t t′ : Tables) (line : Line) (called : Called) (places : List ℤ) (n lines : ℕ) (old : List ℕ) (at : ℕ) (new : List ℕ) (next next′ : ℕ)
-    (asks : line ≡ parsed (keptLine (s .kept))) (calls : CallEnsures line (machine (s .state) (s .queries) t) (called .outcome) places (machine (called .state) (called .queries) t′))
-    (after : NewLine (called .state) (called .queries) lines s′) where
-  -- what is kept of the line asks what the line does
-  asked : (r : Running) → Shown r (held s t) → line ≡ parsed (r .line)
-  asked r sh = asks ∙ ap parsed (sh .line) ∙ parsed-kept (r .line)
-
-  -- what is held after it
-  abbrev h′ : Held
-  h′ = held (record { state = called .state; queries = called .queries; lines = lines; kept = s′ .kept }) t′
-
-  ended-so : lines ≡ s .lines + 1 → n ≡ called .state .count → (Put old at (printed n lines (readingOutcome (called .outcome) places)) new next) × (next ≤ at + lineRoom)
-      → LineEnsures (held s t) old at h′ new next
-  ended-so el en (text, room) =
-      record {
-        says = says;
-        unchanged = λ r sh k e. calls .unchanged k (calls .agrees (r .position .state) (sh .represents) ∙ ap (λ (x : Line). (lineStep (r .position .state) x) .outcome) (asked r sh) ∙ e);
-        counts = el;
+module _ (asked : Line) (m : Machine) (lines : ℕ) (called : Called) (places : List ℤ) (list : List ℕ) (t : Tables) (old : List ℕ) (at : ℕ) (new : List ℕ) (next : ℕ)
+    (calls : CallEnsures asked m (called .outcome) places (machine (called .state) list t)) where
+  pub line-ended : {n : ℕ} {e : Ended} → n ≡ called .state .count → e ≡ record { session = newLine (called .state) (lines + 1); at = next }
+      → (Put old at (printed n (lines + 1) (readingOutcome (called .outcome) places)) new next) × (next ≤ at + lineRoom)
+      → LineEnsures asked m lines old at (e .session) (machine (e .session .state) list t) new (e .at)
+  line-ended {n} en is (put, room) =
+      subst (λ (x : Ended). LineEnsures asked m lines old at (x .session) (machine (x .session .state) list t) new (x .at)) (sym is)
+      (record {
+        represents = calls .represents;
+        text = text;
+        unchanged = λ s rep k q. calls .unchanged k (calls .agrees s rep ∙ q);
+        after = refl;
         room = room;
-        puts = record { bytes = printed n lines (readingOutcome (called .outcome) places); put = text };
+        puts = record { bytes = printed n (lines + 1) o; put = put };
+        listKept = calls .listKept;
         kept = calls .kept;
-      }
+      })
     where
       o : Outcome
       o = readingOutcome (called .outcome) places
 
-      says : (r : Running) → Shown r (held s t) → Says (lineEnded r) h′ old at new next
-      says r sh =
-          let before : model.State = r .position .state in
-          let rep : Represents ((lineStep before line) .state) (machine (called .state) (called .queries) t′) = calls .represents before (sh .represents) in
-          let same : line ≡ parsed (r .line) = asked r sh in
-          let is-line : lines ≡ r .position .lines + 1 = el ∙ ap (λ (k : ℕ). k + 1) (sh .lines) in
-          let is-outcome : o ≡ (lineStep before line) .outcome = calls .agrees before (sh .represents) in
-          record {
-            shown = record { represents = rw (sym same) rep; lines = is-line; line = ap (λ (k : ℕ). take k (s′ .kept .bytes)) (after .none) };
-            text = rw (sym same) (put-as (ap (λ (k : ℕ). printed k lines o) (en ∙ rep .state .count)
-                ∙ ap (λ (k : ℕ). printed (count ((lineStep before line) .state)) k o) is-line
-                ∙ ap (printed (count ((lineStep before line) .state)) (r .position .lines + 1)) is-outcome) text);
-          }
-
-  pub line-ended : lines ≡ s .lines + 1 → n ≡ called .state .count → next′ ≡ next → (Put old at (printed n lines (readingOutcome (called .outcome) places)) new next) × (next ≤ at + lineRoom)
-      → LineEnsures (held s t) old at (held s′ t′) new next′
-  line-ended el en ea put =
-      subst (λ (k : ℕ). LineEnsures (held s t) old at (held s′ t′) new k) (sym ea)
-      (subst (λ (x : Session). LineEnsures (held s t) old at (held x t′) new next) (sym (after .is)) (ended-so el en put))
+      text : (p : Position) → Represents (p .state) m → lines ≡ p .lines → Put old at ((lineReported p asked) .text) new next
+      text p rep same =
+          let reads : ℕ = count ((lineStep (p .state) asked) .state) in
+          put-as
+          (ap (λ (k : ℕ). printed k (lines + 1) o) (en ∙ calls .represents (p .state) rep .state .count) ∙ ap (λ (k : ℕ). printed reads (k + 1) o) same
+          ∙ ap (printed reads (p .lines + 1)) (calls .agrees (p .state) rep)) put
 
 -- ---- bytes without an end of line
 
@@ -139,33 +120,41 @@ module _ (chunk : List ℕ) (from to : ℕ) (is : to ≡ from + until 10 (drop f
       ∙ drop-append-le from (take to chunk) (getD chunk to 0 ∷ []) (omega (arith, length-take-le to chunk (omega arith)))
       ∙ ap (λ (b : ℕ). slice from to chunk ++ (b ∷ [])) byte
 
-  module _ (s s′ : Session) (t : Tables) (kept : Kept) (same : s′ ≡ keeping s kept) (keeps : keptLine kept ≡ take keptLength (keptLine (s .kept) ++ slice from to chunk)) where
-    -- the current line is longer by these bytes
-    longer : (r : Running) → Shown r (held s t) → Shown ((lineExtended r (slice from to chunk)) .running) (held s′ t)
-    longer r sh =
-        rw same
-        (record {
-          represents = sh .represents;
-          lines = sh .lines;
-          line = keeps ∙ ap (λ (l : List ℕ). take keptLength (l ++ slice from to chunk)) (sh .line) ∙ take-joined keptLength (r .line) (slice from to chunk);
-        })
+  -- these bytes join the current line
+  fed-part : (r : Running) → fedAll r (slice from to chunk) ≡ lineExtended r (slice from to chunk)
+  fed-part r = rw line-part (fed-until (drop from chunk) r)
 
-    fed-part : (r : Running) → fedAll r (slice from to chunk) ≡ lineExtended r (slice from to chunk)
-    fed-part r = rw line-part (fed-until (drop from chunk) r)
+  module _ (s : Session) (list line : List ℕ) (t : Tables) (line′ : List ℕ) (same : (length line′ ≡ length line) × (drop keptLength line′ ≡ drop keptLength line)) where
+    -- there is as much room for a line
+    same-room : keptLength ≤ length line → keptLength ≤ length line′
+    same-room h = omega (arith, h, same .0)
 
     -- the chunk ends before the line does
-    pub line-kept : (old : List ℕ) (at : ℕ) → Streams (slice from to chunk) (held s t) old at (held s′ t) old at
-    line-kept old at =
+    pub line-kept : (kept : ℕ) (old : List ℕ) (at : ℕ) → keptLine kept line′ ≡ take keptLength (keptLine (s .kept) line ++ slice from to chunk)
+        → Streams (slice from to chunk) (held s list line t) old at (held (keeping s kept) list line′ t) old at
+    line-kept kept old at keeps =
         record {
           says = λ r sh. rw (fed-part r) (record { shown = longer r sh; text = put-none old at });
           puts = puts-none old at;
-          kept = tables-same t;
+          kept = record { list = kept-same list; line = record { asLong = same .0; beyond = same .1 }; tables = tables-same t };
         }
+      where
+        -- the current line is longer by these bytes
+        longer : (r : Running) → Shown r (held s list line t) → Shown ((lineExtended r (slice from to chunk)) .running) (held (keeping s kept) list line′ t)
+        longer r sh =
+            record {
+              represents = sh .represents;
+              lines = sh .lines;
+              room = same-room (sh .room);
+              line = keeps ∙ ap (λ (l : List ℕ). take keptLength (l ++ slice from to chunk)) (sh .line) ∙ take-joined keptLength (r .line) (slice from to chunk);
+            }
 
     -- the line ends in the chunk
-    pub line-taken : {h : Held} {old new : List ℕ} {at next : ℕ} → to < length chunk → LineEnsures (held s′ t) old at h new next
-        → Streams (slice from (to + 1) chunk) (held s t) old at h new next
-    line-taken {h} {old} {new} {at} {next} l p = record { says = says; puts = p .puts; kept = p .kept }
+    pub line-taken : {asked : Line} {s′ : Session} {list′ : List ℕ} {t′ : Tables} {old new : List ℕ} {at next : ℕ} → to < length chunk → asked ≡ parsed (take keptLength (keptLine (s .kept) line ++ slice from to chunk))
+        → LineEnsures asked (machine (s .state) list t) (s .lines) old at s′ (machine (s′ .state) list′ t′) new next
+        → Streams (slice from (to + 1) chunk) (held s list line t) old at (held s′ list′ line′ t′) new next
+    line-taken {asked} {s′} {list′} {t′} {old} {new} {at} {next} l asks p =
+        record { says = says; puts = p .puts; kept = record { list = p .listKept; line = record { asLong = same .0; beyond = same .1 }; tables = p .kept } }
       where
         bytes : List ℕ
         bytes = slice from to chunk
@@ -177,52 +166,75 @@ module _ (chunk : List ℕ) (from to : ℕ) (is : to ≡ from + until 10 (drop f
             ∙ ap (λ (x : Streamed). following (x .text) (fedAll (x .running) (10 ∷ []))) (fed-part r)
             ∙ fed-end ((lineExtended r bytes) .running)
 
-        says : (r : Running) → Shown r (held s t) → Says (fedAll r (slice from (to + 1) chunk)) h old at new next
-        says r sh = rw (ends r) (p .says ((lineExtended r bytes) .running) (longer r sh))
+        -- what is kept of the line and these bytes ask what the line does
+        is-asked : (r : Running) → Shown r (held s list line t) → asked ≡ parsed (r .line ++ bytes)
+        is-asked r sh =
+            asks ∙ ap (λ (x : List ℕ). parsed (take keptLength (x ++ bytes))) (sh .line) ∙ ap parsed (take-joined keptLength (r .line) bytes) ∙ parsed-kept (r .line ++ bytes)
+
+        says : (r : Running) → Shown r (held s list line t) → Says (fedAll r (slice from (to + 1) chunk)) (held s′ list′ line′ t′) old at new next
+        says r sh =
+            rw (ends r, sym (is-asked r sh))
+            (record {
+              shown = record {
+                represents = p .represents (r .position .state) (sh .represents);
+                lines = ap (λ (x : Session). x .lines) (p .after) ∙ ap (λ (k : ℕ). k + 1) (sh .lines);
+                room = same-room (sh .room);
+                line = ap (λ (x : Session). keptLine (x .kept) line′) (p .after);
+              };
+              text = p .text (r .position) (sh .represents) (sh .lines);
+            })
 
 -- ---- the rest of a line
 
-module _ (chunk : List ℕ) (taken r : Taken) (e : Ended) (to : ℕ) (t : Tables) (end : (to ≤ length chunk) × (to ≡ taken .to + until 10 (drop (taken .to) chunk)))
-    (long : LongerEnsures taken (slice (taken .to) to chunk) e) (byte : taken .to < length chunk) (few : taken .session .lines < lineLimit) where
-  -- it has as many lines before it
-  same-lines : e .session .lines ≡ taken .session .lines
-  same-lines = ap (λ (s : Session). s .lines) (long .same)
-
+module _ (chunk : List ℕ) (taken r : Taken) (to : ℕ) (list line : List ℕ) (t : Tables) (line′ : List ℕ) (end : (to ≤ length chunk) × (to ≡ taken .to + until 10 (drop (taken .to) chunk)))
+    (byte : taken .to < length chunk) (few : taken .session .lines < lineLimit) where
   -- the chunk ends before the line does
-  pub rest-kept : (old : List ℕ) → length chunk ≤ to → r ≡ record { session = e .session; to = to; at = e .at }
-      → RestEnsures chunk (taken .to) (held (taken .session) t) old (taken .at) (held (r .session) t) (r .to) old (r .at)
-  rest-kept old beyond is =
-      subst (λ (x : Taken). RestEnsures chunk (taken .to) (held (taken .session) t) old (taken .at) (held (x .session) t) (x .to) old (x .at)) (sym is)
-      (subst (λ (n : ℕ). RestEnsures chunk (taken .to) (held (taken .session) t) old (taken .at) (held (e .session) t) to old n) (sym (long .at))
+  pub rest-kept : (kept : ℕ) (old : List ℕ) → length chunk ≤ to
+      → (keptLine kept line′ ≡ take keptLength (keptLine (taken .session .kept) line ++ slice (taken .to) to chunk)) × ((length line′ ≡ length line) × (drop keptLength line′ ≡ drop keptLength line))
+      → r ≡ record { session = keeping (taken .session) kept; to = to; at = taken .at }
+      → RestEnsures chunk (taken .to) (held (taken .session) list line t) old (taken .at) (held (r .session) list line′ t) (r .to) old (r .at)
+  rest-kept kept old beyond (keeps, same) is =
+      subst (λ (x : Taken). RestEnsures chunk (taken .to) (held (taken .session) list line t) old (taken .at) (held (x .session) list line′ t) (x .to) old (x .at)) (sym is)
       (record {
-        streams = line-kept chunk (taken .to) to (end .1) (taken .session) (e .session) t (long .kept) (long .same) (long .line) old (taken .at);
+        streams = line-kept chunk (taken .to) to (end .1) (taken .session) list line t line′ same kept old (taken .at) keeps;
         onward = omega (arith, beyond, byte);
         inside = end .0;
         room = omega arith;
-        few = omega (arith, few, same-lines);
-      }))
+        few = omega (arith, few);
+      })
 
   -- the line ends in the chunk
-  pub rest-taken : {t′ : Tables} {e′ : Ended} {old new : List ℕ} → to < length chunk → LineEnsures (held (e .session) t) old (e .at) (held (e′ .session) t′) new (e′ .at)
-      → r ≡ record { session = e′ .session; to = to + 1; at = e′ .at }
-      → RestEnsures chunk (taken .to) (held (taken .session) t) old (taken .at) (held (r .session) t′) (r .to) new (r .at)
-  rest-taken {t′} {e′} {old} {new} inside line is =
-      let line′ : LineEnsures (held (e .session) t) old (taken .at) (held (e′ .session) t′) new (e′ .at) =
-      subst (λ (n : ℕ). LineEnsures (held (e .session) t) old n (held (e′ .session) t′) new (e′ .at)) (long .at) line in
-      subst (λ (x : Taken). RestEnsures chunk (taken .to) (held (taken .session) t) old (taken .at) (held (x .session) t′) (x .to) new (x .at)) (sym is)
+  pub rest-taken : {asked : Line} {e : Ended} {list′ : List ℕ} {t′ : Tables} {old new : List ℕ} → to < length chunk
+      → (asked ≡ parsed (take keptLength (keptLine (taken .session .kept) line ++ slice (taken .to) to chunk))) × ((length line′ ≡ length line) × (drop keptLength line′ ≡ drop keptLength line))
+      → LineEnsures asked (machine (taken .session .state) list t) (taken .session .lines) old (taken .at) (e .session) (machine (e .session .state) list′ t′) new (e .at)
+      → r ≡ record { session = e .session; to = to + 1; at = e .at }
+      → RestEnsures chunk (taken .to) (held (taken .session) list line t) old (taken .at) (held (r .session) list′ line′ t′) (r .to) new (r .at)
+  rest-taken {asked} {e} {list′} {t′} {old} {new} inside (asks, same) p is =
+      subst (λ (x : Taken). RestEnsures chunk (taken .to) (held (taken .session) list line t) old (taken .at) (held (x .session) list′ line′ t′) (x .to) new (x .at)) (sym is)
       (record {
-        streams = line-taken chunk (taken .to) to (end .1) (taken .session) (e .session) t (long .kept) (long .same) (long .line) inside line′;
+        streams = line-taken chunk (taken .to) to (end .1) (taken .session) list line t line′ same inside asks p;
         onward = omega (arith, end);
         inside = omega (arith, inside);
-        room = line′ .room;
-        few = omega (arith, line′ .counts, few, same-lines);
+        room = p .room;
+        few = omega (arith, few, ap (λ (s : Session). s .lines) (p .after));
       })
 
 -- ---- one after the other
 
+pub held-same : (h : Held) → HeldKept h h
+held-same h = record { list = kept-same (h .list); line = record { asLong = refl; beyond = refl }; tables = tables-same (h .tables) }
+
+pub held-then : {h i j : Held} → HeldKept h i → HeldKept i j → HeldKept h j
+held-then p q =
+    record {
+      list = kept-then (p .list) (q .list);
+      line = record { asLong = q .line .asLong ∙ p .line .asLong; beyond = q .line .beyond ∙ p .line .beyond };
+      tables = tables-then (p .tables) (q .tables);
+    }
+
 pub streams-none : (chunk : List ℕ) (from : ℕ) (h : Held) (old : List ℕ) (at : ℕ) → Streams (slice from from chunk) h old at h old at
 streams-none chunk from h old at =
-    rw (slice-empty from chunk) (record { says = λ r sh. record { shown = sh; text = put-none old at }; puts = puts-none old at; kept = tables-same (h .tables) })
+    rw (slice-empty from chunk) (record { says = λ r sh. record { shown = sh; text = put-none old at }; puts = puts-none old at; kept = held-same h })
 
 streams-then : {xs ys : List ℕ} {h i j : Held} {old mid new : List ℕ} {at next last : ℕ}
     → Streams xs h old at i mid next → Streams ys i mid next j new last → Streams (xs ++ ys) h old at j new last
@@ -230,7 +242,7 @@ streams-then {xs} {ys} {h} {i} {j} {old} {mid} {new} {at} {next} {last} p q =
     record {
       says = says;
       puts = puts-then (p .puts) (q .puts);
-      kept = tables-then (p .kept) (q .kept);
+      kept = held-then (p .kept) (q .kept);
     }
   where
     says : (r : Running) → Shown r h → Says (fedAll r (xs ++ ys)) j old at new last
@@ -254,4 +266,5 @@ pub record Inside (chunk : List ℕ) (from : ℕ) (h₀ : Held) (old : List ℕ)
   pub asLong : length out ≡ length old
   pub few : h₀ .session .lines ≤ lineLimit → h .session .lines ≤ lineLimit
   pub table : length places ≡ answerTable
-  pub still : to ≡ from → (h .session ≡ h₀ .session) × NothingDone (h₀ .tables) (h .tables) old out at
+  pub line : keptLength ≤ length (h .line)
+  pub still : to ≡ from → (h ≡ h₀) × ((at ≡ 0) × (out ≡ old))

@@ -1,50 +1,51 @@
 -- Where a session begins, goes on and ends.
 -- Assumes nothing.
-use Prim.Native.Nat.{ℕ, zero, suc, _+_, _≤_, _<_}
+use Prim.Native.Nat.{ℕ, zero, suc, _+_, _≤_, _<_, min}
 use native.Mathlib.Omega.{arith}
 use mathlib.Core.Path.{_≡_, refl, sym, ap, _∙_, subst}
-use mathlib.Core.Bool.{Bool, true, false, not, _&&_, cond, false≢true}
+use mathlib.Core.Bool.{Bool, true, false, _&&_, cond, false≢true}
 use mathlib.Core.List.{List, [], _∷_}
-use lib.Dec.{eqb, leb, ltb}
-use borrow.Author.Tests.{ne-eqb, lt-ltb, le-ltb, le-leb, lt-leb, ltb-true, ltb-false, leb-true}
-use lib.ListN.{length, take, length-map}
+use lib.Dec.{leb, ltb}
+use borrow.Author.Tests.{lt-ltb, le-ltb, le-leb, lt-leb, ltb-true, ltb-false, leb-true}
+use lib.ListN.{length, take, length-take, length-map}
 use Rattle.window.specs.Calls.{Outcome}
 use Rattle.window.specs.Model as model
 use Rattle.window.proofs.Lists.{and-left, and-right}
 use Rattle.engine.specs.declared.state.State.{State}
-use Rattle.registry.specs.Records.{used, Tidy}
+use Rattle.registry.specs.Records.{ListKept}
+use Rattle.registry.proofs.Laying.{kept-same}
 use Rattle.board.specs.Tables.{Tables, TablesKept}
 use Rattle.engine.specs.States.{FreshState}
-use Rattle.engine.specs.Machine.{Machine, closedOf, Represents}
+use Rattle.engine.specs.Machine.{Machine, machine, machineLong, closedOf, Represents}
 use Rattle.engine.specs.Contracts.{StartEnsures}
 use Rattle.board.proofs.Lending.{tables-same}
-use Rattle.parse.specs.declared.kept.Kept.{Kept}
+use Rattle.parse.specs.declared.line.Line.{Line}
 use Rattle.parse.specs.Lines.{parsed}
 use Rattle.parse.specs.Kept.{keptLength, keptLine}
+use Rattle.parse.proofs.Keeping.{parsed-kept}
 use Rattle.print.specs.Lines.{totalsLine, totalsRoom}
 use Rattle.print.specs.Put.{Put, PutSome}
 use Rattle.print.proofs.Putting.{put-none, put-then, put-as, puts-none, puts-then}
 use Rattle.session.specs.declared.stream.Session.{Session}
-use Rattle.session.specs.Meaning.{lineReported, finished, totalsText, lineRoom}
-use Rattle.session.specs.Stream.{Running, lineEnded, begun, ended}
-use Rattle.session.specs.Contracts.{Held, held, sessionMachine, RefusesEnsures, NewLine, Shown, Says, lineLimit, hasLast, goesOn, LineEnsures, OpenEnsures, finishRoom, FinishEnsures}
+use Rattle.session.specs.Meaning.{Reported, lineReported, finished, totalsText, lineRoom}
+use Rattle.session.specs.Stream.{Running, begun, ended}
+use Rattle.session.specs.Contracts.{Held, held, sessionMachine, RefusesEnsures, newLine, Shown, lineLimit, hasLast, goesOn, LineEnsures, lent, lentOf, OpenEnsures, finishRoom, FinishEnsures}
 
 -- ---- the first session
 
-pub started : (m m′ : Machine) (o : Outcome) (s : Session) → FreshState (m .state) → used (m .queries) ≡ [] → Tidy (m .queries) → NewLine (m′ .state) (m′ .queries) 0 s → StartEnsures m o m′
-    → OpenEnsures (m .tables) (held s (m′ .tables))
-started m m′ o s fresh empty tidy new p =
-    subst (λ (x : Session). OpenEnsures (m .tables) (held x (m′ .tables))) (sym (new .is))
+pub started : (m m′ : Machine) (o : Outcome) (s : Session) (line : List ℕ) → FreshState (m .state) → s ≡ newLine (m′ .state) 0 → StartEnsures m o m′
+    → OpenEnsures (lent (m .list) (m .tables)) (held s (m′ .list) line (m′ .tables))
+unfolding machineLong
+started m m′ o s line fresh new p =
+    subst (λ (x : Session). OpenEnsures (lent (m .list) (m .tables)) (held x (m′ .list) line (m′ .tables))) (sym new)
     (record {
-      shows = λ l. record { represents = p .represents l; lines = refl; line = no-byte-kept };
+      shows = λ l room. record { represents = p .represents l; lines = refl; room = room; line = refl };
       zeroes = p .zeroes;
-      short = λ s. subst (λ (x : Machine). (x .tables ≡ m .tables) × (FreshState (x .state) × ((used (x .queries) ≡ []) × Tidy (x .queries)))) (sym (p .unchanged 1 (p .short s))) (refl, (fresh, (empty, tidy)));
+      listKept = p .listKept;
+      short = λ s. subst (λ (x : Machine). (lent (x .list) (x .tables) ≡ lent (m .list) (m .tables)) × FreshState (x .state)) (sym (p .unchanged 1 (p .short s))) (refl, fresh);
       few = refl;
-      none = no-byte-kept;
+      none = refl;
     })
-  where
-    no-byte-kept : keptLine (s .kept) ≡ []
-    no-byte-kept = ap (λ (k : ℕ). take k (s .kept .bytes)) (new .none)
 
 -- ---- whether it goes on
 
@@ -79,67 +80,69 @@ module _ (to size at room lines : ℕ) where
 -- ---- the last line
 
 -- a line has a byte exactly where one is kept
-begun-kept : (k : Kept) (line : List ℕ) → keptLength ≤ length (k .bytes) → keptLine k ≡ take keptLength line → not (eqb (k .length) 0) ≡ begun line
-begun-kept k line room e = go (k .length) (k .bytes) line room e
-  where
-    go : (n : ℕ) (bytes line : List ℕ) → keptLength ≤ length bytes → take n bytes ≡ take keptLength line → not (eqb n 0) ≡ begun line
-    go zero bytes [] h q = refl
-    go zero bytes (x ∷ xs) h q = cc
-    go (suc n) [] line h q = absurd (omega arith)
-    go (suc n) (b ∷ bs) [] h q = cc
-    go (suc n) (b ∷ bs) (x ∷ xs) h q = ap not (ne-eqb (suc n) 0 (omega arith))
+begun-kept : (kept : ℕ) (bytes line : List ℕ) → keptLength ≤ length bytes → keptLine kept bytes ≡ take keptLength line → ltb 0 kept ≡ begun line
+begun-kept zero bytes [] h q = refl
+begun-kept zero bytes (x ∷ xs) h q = cc
+begun-kept (suc n) bytes [] h q = absurd (omega (arith, h, ap length q, length-take (min (suc n) keptLength) bytes))
+begun-kept (suc n) bytes (x ∷ xs) h q = lt-ltb 0 (suc n) (omega arith)
 
 -- whether there is one, and a number for it
 module _ (s : Session) where
-  pub last-by-byte : {b : Bool} → s .lines ≤ lineLimit → b ≡ not (eqb (s .kept .length) 0) → b ≡ hasLast s
+  pub last-by-byte : s .lines ≤ lineLimit → ltb 0 (s .kept) ≡ hasLast s
   unfolding hasLast
-  last-by-byte few e = e ∙ sym (ap (λ (x : Bool). x && not (eqb (s .kept .length) 0)) (le-leb (s .lines) lineLimit few))
+  last-by-byte few = sym (ap (λ (x : Bool). x && ltb 0 (s .kept)) (le-leb (s .lines) lineLimit few))
 
   pub last-unnumbered : lineLimit < s .lines → leb (s .lines) lineLimit ≡ hasLast s
   unfolding hasLast
   last-unnumbered many =
       let no : leb (s .lines) lineLimit ≡ false = lt-leb (s .lines) lineLimit many in
-      no ∙ sym (ap (λ (x : Bool). x && not (eqb (s .kept .length) 0)) no)
+      no ∙ sym (ap (λ (x : Bool). x && ltb 0 (s .kept)) no)
 
-  pub has-last : hasLast s ≡ true → (s .lines ≤ lineLimit) × (not (eqb (s .kept .length) 0) ≡ true)
+  pub has-last : hasLast s ≡ true → (s .lines ≤ lineLimit) × (ltb 0 (s .kept) ≡ true)
   unfolding hasLast
-  has-last e =
-      let number : Bool = leb (s .lines) lineLimit in
-      let byte : Bool = not (eqb (s .kept .length) 0) in
-      (leb-true (s .lines) lineLimit (and-left number byte e), and-right number byte e)
-
-  no-last : hasLast s ≡ false → s .lines ≤ lineLimit → not (eqb (s .kept .length) 0) ≡ false
-  no-last e few = last-by-byte few refl ∙ e
+  has-last e = (leb-true (s .lines) lineLimit (and-left (leb (s .lines) lineLimit) (ltb 0 (s .kept)) e), and-right (leb (s .lines) lineLimit) (ltb 0 (s .kept)) e)
 
 -- what the last line leaves: it ends, if it has a byte
-pub record LastLine (h : Held) (old : List ℕ) (h′ : Held) (new : List ℕ) (next : ℕ) : Type 0 where
-  pub line : (r : Running) → Shown r h → h .session .lines ≤ lineLimit → begun (r .line) ≡ true → Says (lineEnded r) h′ old 0 new next
-  pub none : (r : Running) → Shown r h → begun (r .line) ≡ false → (h′ ≡ h) × Put old 0 [] new next
+pub record LastLine (h : Held) (old : List ℕ) (m : Machine) (new : List ℕ) (next : ℕ) : Type 0 where
+  pub line : (r : Running) → Shown r h → h .session .lines ≤ lineLimit → begun (r .line) ≡ true
+      → (Represents ((lineReported (r .position) (parsed (r .line))) .position .state) m) × Put old 0 ((lineReported (r .position) (parsed (r .line))) .text) new next
+  pub none : (r : Running) → Shown r h → begun (r .line) ≡ false → (m ≡ sessionMachine h) × Put old 0 [] new next
   pub room : next ≤ lineRoom
   pub puts : PutSome old 0 new next
-  pub kept : TablesKept (h .tables) (h′ .tables)
+  pub listKept : ListKept (h .list) (m .list)
+  pub kept : TablesKept (h .tables) (m .tables)
 
-module _ (s : Session) (t : Tables) (old : List ℕ) (room : keptLength ≤ length (s .kept .bytes)) where
+module _ (s : Session) (list line : List ℕ) (t : Tables) (old : List ℕ) where
   -- there is none, or no number for it
-  pub no-line : hasLast s ≡ false → LastLine (held s t) old (held s t) old 0
+  pub no-line : hasLast s ≡ false → LastLine (held s list line t) old (machine (s .state) list t) old 0
   no-line none =
       record {
-        line = λ r sh few b. absurd (false≢true (sym (no-last s none few) ∙ begun-kept (s .kept) (r .line) room (sh .line) ∙ b));
+        line = λ r sh few b. absurd (false≢true (sym (last-by-byte s few ∙ none) ∙ begun-kept (s .kept) line (r .line) (sh .room) (sh .line) ∙ b));
         none = λ r sh b. (refl, put-none old 0);
         room = omega arith;
         puts = puts-none old 0;
+        listKept = kept-same list;
         kept = tables-same t;
       }
 
-  pub one-line : {h : Held} {new : List ℕ} {next : ℕ} → hasLast s ≡ true → LineEnsures (held s t) old 0 h new next → LastLine (held s t) old h new next
-  one-line last p =
+  -- there is one
+  pub one-line : {asked : Line} {s′ : Session} {m : Machine} {new : List ℕ} {next : ℕ} → hasLast s ≡ true → asked ≡ parsed (keptLine (s .kept) line)
+      → LineEnsures asked (machine (s .state) list t) (s .lines) old 0 s′ m new next → LastLine (held s list line t) old m new next
+  one-line {asked} {s′} {m} {new} {next} last asks p =
       record {
-        line = λ r sh few e. p .says r sh;
-        none = λ r sh e. absurd (false≢true (sym e ∙ sym (begun-kept (s .kept) (r .line) room (sh .line)) ∙ has-last s last .1));
+        line = λ r sh few e. ends r sh;
+        none = λ r sh e. absurd (false≢true (sym e ∙ sym (begun-kept (s .kept) line (r .line) (sh .room) (sh .line)) ∙ has-last s last .1));
         room = omega (arith, p .room);
         puts = p .puts;
+        listKept = p .listKept;
         kept = p .kept;
       }
+    where
+      ends : (r : Running) → Shown r (held s list line t)
+          → (Represents ((lineReported (r .position) (parsed (r .line))) .position .state) m) × Put old 0 ((lineReported (r .position) (parsed (r .line))) .text) new next
+      ends r sh =
+          rw (sym (asks ∙ ap parsed (sh .line) ∙ parsed-kept (r .line)))
+          (p .represents (r .position .state) (sh .represents), p .text (r .position) (sh .represents) (sh .lines))
 
 -- ---- the totals
 
@@ -154,30 +157,33 @@ ended-by : (r : Running) (b : Bool) → begun (r .line) ≡ b → ended r ≡ co
 unfolding ended
 ended-by r b e = ap (λ (x : Bool). cond x (finished (lineReported (r .position) (parsed (r .line)))) (totalsText (r .position .state))) e
 
-pub finishes : (h h′ : Held) (old mid new : List ℕ) (next filled : ℕ) {refuses : Bool} → RefusesEnsures (sessionMachine h) refuses → refuses ≡ false → LastLine h old h′ mid next → finishRoom ≤ length old → length new ≡ length old
-    → (Put mid next (totalsLine (h′ .session .state .count) (h′ .session .state .board .closed) (h′ .session .state .board .maxima .comparisons) (h′ .session .state .board .minima .comparisons)) new filled) × (filled ≤ next + totalsRoom)
-    → FinishEnsures h old (h′ .tables) new filled
-finishes h h′ old mid new next filled told passed last room size (text, end) =
+pub finishes : (h : Held) (m : Machine) (old mid new : List ℕ) (next filled : ℕ) {refuses : Bool} → RefusesEnsures (sessionMachine h) (length (h .line)) refuses → refuses ≡ false → LastLine h old m mid next
+    → finishRoom ≤ length old → length new ≡ length old
+    → (Put mid next (totalsLine (m .state .count) (m .state .board .closed) (m .state .board .maxima .comparisons) (m .state .board .minima .comparisons)) new filled) × (filled ≤ next + totalsRoom)
+    → FinishEnsures h old (lent (m .list) (m .tables)) new filled
+finishes h m old mid new next filled told passed last room size (text, end) =
     record {
       says = λ r sh few long. says r sh few (begun (r .line)) refl;
       short = λ l. absurd (omega arith);
       refuses = λ e. absurd (false≢true (sym passed ∙ told .always e));
       puts = puts-then (last .puts) (record { bytes = _; put = text });
       fits = omega (arith, last .room, end, size);
+      listKept = last .listKept;
       kept = last .kept;
-      untouched = λ r sh e. ap (λ (x : Held). x .tables) ((last .none r sh e) .0);
+      untouched = λ r sh e. ap (λ (x : Machine). lent (x .list) (x .tables)) ((last .none r sh e) .0);
     }
   where
     says : (r : Running) → Shown r h → (begun (r .line) ≡ true → h .session .lines ≤ lineLimit) → (b : Bool) → begun (r .line) ≡ b → Put old 0 (ended r) new filled
     says r sh few true e =
-        let line : Says (lineEnded r) h′ old 0 mid next = last .line r sh (few e) e in
-        put-as (sym (ended-by r true e)) (put-then (line .text) (put-as (totals-are _ (sessionMachine h′) (line .shown .represents)) text))
+        let after : Reported = lineReported (r .position) (parsed (r .line)) in
+        let line : (Represents (after .position .state) m) × Put old 0 (after .text) mid next = last .line r sh (few e) e in
+        put-as (sym (ended-by r true e)) (put-then (line .1) (put-as (totals-are _ m (line .0)) text))
     says r sh few false e =
-        let none : (h′ ≡ h) × Put old 0 [] mid next = last .none r sh e in
-        put-as (sym (ended-by r false e)) (put-then (none .1) (put-as (totals-are (r .position .state) (sessionMachine h′) (subst (λ (x : Held). Represents (r .position .state) (sessionMachine x)) (sym (none .0)) (sh .represents))) text))
+        let none : (m ≡ sessionMachine h) × Put old 0 [] mid next = last .none r sh e in
+        put-as (sym (ended-by r false e)) (put-then (none .1) (put-as (totals-are (r .position .state) m (subst (Represents (r .position .state)) (sym (none .0)) (sh .represents))) text))
 
 -- nothing is printed: the output has no room, or no session is shown
-pub no-finish : (h : Held) (old : List ℕ) → ((r : Running) → Shown r h → finishRoom ≤ length old → ⊥) → FinishEnsures h old (h .tables) old 0
+pub no-finish : (h : Held) (old : List ℕ) → ((r : Running) → Shown r h → finishRoom ≤ length old → ⊥) → FinishEnsures h old (lentOf h) old 0
 no-finish h old never =
     record {
       says = λ r sh few long. absurd (never r sh long);
@@ -185,6 +191,7 @@ no-finish h old never =
       refuses = λ e. (refl, (refl, refl));
       puts = puts-none old 0;
       fits = omega arith;
+      listKept = kept-same (h .list);
       kept = tables-same (h .tables);
       untouched = λ r sh e. refl;
     }

@@ -8,8 +8,7 @@ use lib.ListN.{take}
 use lib.Seq.{slice}
 use Rattle.print.specs.Put.{Put}
 use Rattle.session.specs.Stream.{Running, Streamed, opened, following, fedAll, ended}
-use Rattle.session.specs.Contracts.{Held, Shown, Says, lineLimit}
-use Rattle.board.specs.Tables.{Tables}
+use Rattle.session.specs.Contracts.{Held, Shown, Says, lineLimit, Lent}
 use Rattle.session.specs.Whole.{Fed, none, more, Begun, Reached, WholeSession}
 use Rattle.session.proofs.Streaming.{whole-input, fed-append}
 
@@ -38,9 +37,9 @@ fed-all r (more {h} {h′} {h″} {chunk} {old} {new} {input} {text} {from} {to}
 
 -- from the opening on
 begun-all : {input text : List ℕ} {h : Held} → Begun input text h → After opened input text h
-begun-all b = fed-all opened (b .feeds) (b .opens .shows (b .long)) (omega (arith, b .opens .few))
+begun-all b = fed-all opened (b .feeds) (b .opens .shows (b .long) (b .room)) (omega (arith, b .opens .few))
 
-pub reached-shown : {lent : Tables} {input : List ℕ} {h : Held} → Reached lent input h → Shown ((fedAll opened input) .running) h
+pub reached-shown : {lent : Lent} {input : List ℕ} {h : Held} → Reached lent input h → Shown ((fedAll opened input) .running) h
 reached-shown p = (begun-all (p .begun)) .shown
 
 -- the claim

@@ -7,7 +7,6 @@ use engine::calls::register;
 use engine::calls::withdraw;
 use engine::state::State;
 use parse::line::Line;
-use registry::queries::Queries;
 use window::count::Count;
 use window::refusal::Refusal;
 use window::refusal::Verdict;
@@ -18,11 +17,10 @@ ghost use Rattle.engine.specs.Machine.{machine};
 ghost use Rattle.session.specs.Meaning.{answerTable};
 ghost use Rattle.session.specs.Contracts.{noAnswers, withoutAnswers, CallEnsures};
 
-// What the call came to, with state and query list handed back: equal where it is refused.
+// What the call came to, with the state handed back: equal where it is refused.
 pub struct Called {
     pub outcome: Answered,
     pub state: State,
-    pub queries: Queries,
 }
 
 // An accepted registration or withdrawal has no answers.
@@ -35,15 +33,11 @@ fn no_answers(verdict: Verdict) -> Answered
     }
 }
 
-// What a call came to, with what it left.
-fn came_to(outcome: Answered, state: State, queries: Queries) -> Called
-    ensures { λ r. ⌜ r ≡ record { outcome = outcome; state = state; queries = queries } ⌝ }
+// What a call came to, with the state that it left.
+fn came_to(outcome: Answered, state: State) -> Called
+    ensures { λ r. ⌜ r ≡ record { outcome = outcome; state = state } ⌝ }
 {
-    Called {
-        outcome,
-        state,
-        queries,
-    }
+    Called { outcome, state }
 }
 
 // What a registration or a withdrawal came to.
@@ -51,28 +45,28 @@ fn without_answers(reply: Reply) -> Called
     ensures { λ r. ⌜ r ≡ withoutAnswers reply ⌝ }
 {
     let verdict = reply.verdict;
-    came_to(no_answers(verdict), reply.state, reply.queries)
+    came_to(no_answers(verdict), reply.state)
 }
 
-// What a reading came to: it leaves the query list as it is.
-fn with_queries(reply: ReadingReply, queries: Queries) -> Called
-    ensures { λ r. ⌜ r ≡ record { outcome = reply .outcome; state = reply .state; queries = queries } ⌝ }
+// What a reading came to.
+fn with_answers(reply: ReadingReply) -> Called
+    ensures { λ r. ⌜ r ≡ record { outcome = reply .outcome; state = reply .state } ⌝ }
 {
     let outcome = reply.outcome;
-    came_to(outcome, reply.state, queries)
+    came_to(outcome, reply.state)
 }
 
 // What a refused line came to, which makes no call.
-fn not_called(refusal: Refusal, state: State, queries: Queries) -> Called
-    ensures { λ r. ⌜ r ≡ record { outcome = Answered.Refused refusal; state = state; queries = queries } ⌝ }
+fn not_called(refusal: Refusal, state: State) -> Called
+    ensures { λ r. ⌜ r ≡ record { outcome = Answered.Refused refusal; state = state } ⌝ }
 {
-    came_to(Answered::Refused(refusal), state, queries)
+    came_to(Answered::Refused(refusal), state)
 }
 
 // The call that a line asks for; a line that is refused makes none.
 pub(crate) fn call(
     state: State,
-    queries: Queries,
+    list: &mut [u32],
     starts: &mut [Count],
     sums: &mut [i64],
     max_starts: &mut [Count],
@@ -84,9 +78,9 @@ pub(crate) fn call(
 ) -> Called
     requires { ⌜ length (now answers) ≡ answerTable ⌝ }
     ensures { λ r. ⌜ CallEnsures line
-        (machine state queries (tables (now (starts .entry)) (now (sums .entry)) (now («max_starts» .entry)) (now («max_values» .entry)) (now («min_starts» .entry)) (now («min_values» .entry))))
+        (machine state (now (list .entry)) (tables (now (starts .entry)) (now (sums .entry)) (now («max_starts» .entry)) (now («max_values» .entry)) (now («min_starts» .entry)) (now («min_values» .entry))))
         (r .outcome) (now (answers .exit))
-        (machine (r .state) (r .queries) (tables (now (starts .exit)) (now (sums .exit)) (now («max_starts» .exit)) (now («max_values» .exit)) (now («min_starts» .exit)) (now («min_values» .exit)))) ⌝ }
+        (machine (r .state) (now (list .exit)) (tables (now (starts .exit)) (now (sums .exit)) (now («max_starts» .exit)) (now («max_values» .exit)) (now («min_starts» .exit)) (now («min_values» .exit)))) ⌝ }
 {
     match line {
         Line::Register {
@@ -96,7 +90,7 @@ pub(crate) fn call(
             slide,
         } => without_answers(register(
             state,
-            queries,
+            list,
             starts,
             sums,
             max_starts,
@@ -110,7 +104,7 @@ pub(crate) fn call(
         )),
         Line::Withdraw { number } => without_answers(withdraw(
             state,
-            queries,
+            list,
             starts,
             sums,
             max_starts,
@@ -119,21 +113,18 @@ pub(crate) fn call(
             min_values,
             number,
         )),
-        Line::Reading { value } => with_queries(
-            reading(
-                state,
-                queries,
-                starts,
-                sums,
-                max_starts,
-                max_values,
-                min_starts,
-                min_values,
-                answers,
-                value,
-            ),
-            queries,
-        ),
-        Line::Refused(refusal) => not_called(refusal, state, queries),
+        Line::Reading { value } => with_answers(reading(
+            state,
+            list,
+            starts,
+            sums,
+            max_starts,
+            max_values,
+            min_starts,
+            min_values,
+            answers,
+            value,
+        )),
+        Line::Refused(refusal) => not_called(refusal, state),
     }
 }

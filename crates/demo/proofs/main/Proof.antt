@@ -20,8 +20,8 @@ abbrev μ-loop : tie.MeasureT-loop
 fresh-requires : tie.Need-fresh-requires Inv-loop μ-loop
 fresh-requires c κs = search needs
 
-empty-requires : tie.Need-empty-requires Inv-loop μ-loop
-empty-requires c κs = search needs
+none-requires : tie.Need-none-requires Inv-loop μ-loop
+none-requires c κs = search needs
 
 loop-holds : tie.Need-loop-holds Inv-loop μ-loop
 loop-holds c = search needs
@@ -72,7 +72,7 @@ main-spec =
     Inv-loop
     μ-loop
     fresh-requires
-    empty-requires
+    none-requires
     loop-holds
     line-requires
     slice-aggregate-play

@@ -23,20 +23,20 @@ clamped-is : (s : tie.Start) → clamped (toZ w64 (ofZ w64 (s .args .got))) (len
 clamped-is s = ap (λ (z : ℤ). clamped z (length (s .args .chunk .now))) (toZ-ofZ (s .fits .got))
 
 returns : tie.Need-returns
-returns c = let s = c .before .before .before .before .before .before in (read-failed (s .args .got) (s .args .chunk .now) _ (sym (below-is s) ∙ c .if1 .taken), refl)
+returns c = let s = c .before .before .before .before .before .before .before .before in (read-failed (s .args .got) (s .args .chunk .now) _ (sym (below-is s) ∙ c .if1 .taken), refl)
 
 returns-2 : tie.Need-returns-2
 returns-2 c =
-    let s = c .before .before .before .before .before .before .before .before in
+    let s = c .before .before .before .before .before .before .before .before .before .before in
     (read-ended (s .args .got) (s .args .chunk .now) _ (sym (below-is s) ∙ c .before .before .if1 .left) (omega (arith, clamped-is s, c .before .count .ensures .1, c .if2 .taken)), refl)
 
 returns-3 : tie.Need-returns-3
 returns-3 c =
-    let at-feed = c .before .before .before .before .before .before .before .before .before .before .before in
-    let at-count = at-feed .before .before .before .before .before .before .before .before .before .before in
-    let s = at-count .before .before .before .before .before .before .before in (
+    let at-feed = c .before .before .before .before .before .before .before .before .before .before .before .before .before .before .before in
+    let at-count = at-feed .before .before .before .before .before .before .before .before .before .before .before .before in
+    let s = at-count .before .before .before .before .before .before .before .before .before in (
       read-some (s .args .got) (s .args .chunk .now) (at-count .count .result) (sym (below-is s) ∙ at-count .before .if1 .left) (at-count .count .ensures .1 ∙ clamped-is s)
-          (omega (arith, at-feed .before .before .before .before .before .before .before .before .before .if2 .left)) (at-feed .feed-chunk .ensures .0),
+          (omega (arith, at-feed .before .before .before .before .before .before .before .before .before .before .before .if2 .left)) (at-feed .feed-chunk .ensures .0),
       at-feed .feed-chunk .ensures .1,
     )
 
@@ -49,6 +49,8 @@ after-read-spec =
     returns-2
     (λ c. search needs)
     (λ c κs. search needs)
+    (λ c. search needs)
+    (λ c. search needs)
     (λ c. search needs)
     (λ c. search needs)
     (λ c. search needs)

@@ -17,21 +17,21 @@ enum-told c = search needs
 
 returns : tie.Need-returns
 returns c =
-    let done = c .before .before .before .before .before .before .before .args .done in (
+    let done = c .before .before .before .before .before .before .before .before .before .args .done in (
       (end-stays (done .progress) (done .said) (c .before .match .keys2), toZ-ofZ {w = w64} {z = done .got} (record { sfits = c .struct-told .given .1 .1 .0 .1 })),
       (λ lent handed. not-ended lent _ _ (done .progress) (c .before .match .keys2) handed, λ told. told),
     )
 
 slice-aggregate-write-all : tie.Need-slice-aggregate-write-all
 slice-aggregate-write-all c =
-    let at-finish = c .before .before .before .before .before .before .before .before .before .before .before .before in
-    omega (arith, at-finish .finish .ensures .fits, length-take (at-finish .finish .result) (at-finish .finish .last .1 .1 .1 .1 .1 .1 .1 .0))
+    let at-finish = c .before .before .before .before .before .before .before .before .before .before .before .before .before .before in
+    omega (arith, at-finish .finish .ensures .fits, length-take (at-finish .finish .result) (at-finish .finish .last .1 .1 .1 .1 .1 .1 .1 .1 .1 .0))
 
 returns-2 : tie.Need-returns-2
 returns-2 c =
-    let at-finish = c .before .before .before .before .before .before .before .before .before .before .before .before .before .before .before in
-    let at-told = at-finish .before .before .before .before .before .before .before .before in
-    let at-start = at-told .before .before .before .before .before .before .before in
+    let at-finish = c .before .before .before .before .before .before .before .before .before .before .before .before .before .before .before .before .before in
+    let at-told = at-finish .before .before .before .before .before .before .before .before .before in
+    let at-start = at-told .before .before .before .before .before .before .before .before .before in
     let said = c .before .before .write-all .result in
     let end = c .before .after-write .result in (
       (end-written said _ end (at-told .enum-told .given .1) (c .before .after-write .ensures), toZ-ofZ {w = w64} {z = at-start .args .done .got} (record { sfits = c .struct-told2 .given .1 .1 .0 .1 })),
@@ -54,6 +54,7 @@ conclude-spec =
     slice-aggregate-write-all
     (λ c κs. search needs)
     (λ c κs. search needs)
+    (λ c. search needs)
     (λ c. search needs)
     (λ c. search needs)
     (λ c. search needs)

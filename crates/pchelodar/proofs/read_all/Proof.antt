@@ -17,133 +17,47 @@ abbrev readLimit : ℕ
 readLimit = 18446744073709551615
 
 abbrev Inv-loop : tie.InvT-loop
-Inv-loop starts₀ sums₀ max-starts₀ max-values₀ min-starts₀ min-values₀ chunk₀ out₀ session₀ reads₀ starts sums max-starts max-values min-starts min-values chunk out session reads =
-    (length starts ≡ length starts₀) × (length sums ≡ length sums₀) × (length max-starts ≡ length max-starts₀) × (length max-values ≡ length max-values₀) × (length min-starts ≡ length min-starts₀) × (length min-values ≡ length min-values₀) × (length chunk ≡ length chunk₀) × (length out ≡ length out₀)
+Inv-loop list₀ line₀ starts₀ sums₀ max-starts₀ max-values₀ min-starts₀ min-values₀ chunk₀ out₀ session₀ reads₀ list line starts sums max-starts max-values min-starts min-values chunk out session reads =
+    (length list ≡ length list₀) × (length line ≡ length line₀) × (length starts ≡ length starts₀) × (length sums ≡ length sums₀) × (length max-starts ≡ length max-starts₀) × (length max-values ≡ length max-values₀) × (length min-starts ≡ length min-starts₀) × (length min-values ≡ length min-values₀) × (length chunk ≡ length chunk₀) × (length out ≡ length out₀)
     × (reads ≤ readLimit)
-    × ReadsFed (readLimit - reads) (held session₀ (tables starts₀ sums₀ max-starts₀ max-values₀ min-starts₀ min-values₀)) (held session (tables starts sums max-starts max-values min-starts min-values))
+    × ReadsFed (readLimit - reads) (held session₀ list₀ line₀ (tables starts₀ sums₀ max-starts₀ max-values₀ min-starts₀ min-values₀)) (held session list line (tables starts sums max-starts max-values min-starts min-values))
 
 abbrev μ-loop : tie.MeasureT-loop
-μ-loop starts₀ sums₀ max-starts₀ max-values₀ min-starts₀ min-values₀ chunk₀ out₀ held₀ reads₀ starts sums max-starts max-values min-starts min-values chunk out held reads =
+μ-loop list₀ line₀ starts₀ sums₀ max-starts₀ max-values₀ min-starts₀ min-values₀ chunk₀ out₀ session₀ reads₀ list line starts sums max-starts max-values min-starts min-values chunk out session reads =
     reads
 
+-- where the loop was left by a return, what followed the last read
+abbrev after-readOf : tie.At-match-keys2 Inv-loop μ-loop → tie.After-after-read Inv-loop μ-loop
+after-readOf c = c .before .before .before .before .before .before .before .before .before .before .before .before .before .before .before .before .before
+
+-- and the turn in which it was
+abbrev loopOf : tie.At-match-keys2 Inv-loop μ-loop → tie.At-loop Inv-loop μ-loop
+loopOf c = after-readOf c .before .before .before .before .before .before .before .before .before .before .before .before .before .before .before .before
+
 loop-holds : tie.Need-loop-holds Inv-loop μ-loop
-loop-holds c = (refl, refl, refl, refl, refl, refl, refl, refl, omega arith, reads-none _)
-
-sub-reads : tie.Need-sub-reads Inv-loop μ-loop
-sub-reads c = omega arith
-
-read-requires : tie.Need-read-requires Inv-loop μ-loop
-read-requires c κs = search needs
+loop-holds c = (refl, refl, refl, refl, refl, refl, refl, refl, refl, refl, omega arith, reads-none _)
 
 after-read-requires : tie.Need-after-read-requires Inv-loop μ-loop
 after-read-requires c κs =
-    let at-loop = c .before .before .before .before .before .before .before .before .before .before .before .before .before in
-    let at-start = at-loop .before .before .before .before .before .before in
-    omega (arith, at-start .pre, at-loop .loop .inv .7)
-
-enum-told : tie.Need-enum-told Inv-loop μ-loop
-enum-told c = search needs
-
-loop-less : tie.Need-loop-less Inv-loop μ-loop
-loop-less c = omega (arith, c .before .before .before .before .before .before .before .before .before .before .before .before .before .before .before .before .before .before .before .before .before .before .before .before .before .before .before .loop-test .taken)
+    let at-loop = c .before .before .before .before .before .before .before .before .before .before .before .before .before .before .before in
+    let at-start = at-loop .before .before .before .before .before .before .before .before in
+    omega (arith, at-start .pre, at-loop .loop .inv .9)
 
 loop-again : tie.Need-loop-again Inv-loop μ-loop
 loop-again c =
-    let at-after = c .before .before .before .before .before .before .before .before .before .before .before .before .before .before in
-    let at-read = at-after .before .before .before .before .before .before .before .before .before .before .before in
+    let at-after = c .before .before .before .before .before .before .before .before .before .before .before .before .before .before .before .before .before .before in
+    let at-read = at-after .before .before .before .before .before .before .before .before .before .before .before .before .before in
     let at-loop = at-read .before .before .before in
-    (at-after .after-read .kept .1 .1 .0 ∙ at-loop .loop .inv .0, at-after .after-read .kept .1 .1 .1 .0 ∙ at-loop .loop .inv .1, at-after .after-read .kept .1 .1 .1 .1 .0 ∙ at-loop .loop .inv .2, at-after .after-read .kept .1 .1 .1 .1 .1 .0 ∙ at-loop .loop .inv .3, at-after .after-read .kept .1 .1 .1 .1 .1 .1 .0 ∙ at-loop .loop .inv .4, at-after .after-read .kept .1 .1 .1 .1 .1 .1 .1 .0 ∙ at-loop .loop .inv .5, at-read .read .kept .1 .0 ∙ at-loop .loop .inv .6, at-after .after-read .kept .1 .1 .1 .1 .1 .1 .1 .1 .1 .0 ∙ at-loop .loop .inv .7, omega (arith, at-loop .loop .inv .8), read-more _ _ (omega (arith, at-loop .loop .inv .8)) (c .enum-told .given .1) (at-loop .loop .inv .9) (at-after .after-read .ensures .0))
-
-same-length : tie.Need-same-length Inv-loop μ-loop
-same-length c =
-    let at-after = c .before .before .before .before .before .before .before .before .before .before .before .before .before in
-    let at-read = at-after .before .before .before .before .before .before .before .before .before .before .before in
-    let at-loop = at-read .before .before .before in
-    at-after .after-read .kept .1 .1 .0 ∙ at-loop .loop .inv .0
-
-same-length-2 : tie.Need-same-length-2 Inv-loop μ-loop
-same-length-2 c =
-    let at-after = c .before .before .before .before .before .before .before .before .before .before .before .before .before in
-    let at-read = at-after .before .before .before .before .before .before .before .before .before .before .before in
-    let at-loop = at-read .before .before .before in
-    at-after .after-read .kept .1 .1 .1 .0 ∙ at-loop .loop .inv .1
-
-same-length-3 : tie.Need-same-length-3 Inv-loop μ-loop
-same-length-3 c =
-    let at-after = c .before .before .before .before .before .before .before .before .before .before .before .before .before in
-    let at-read = at-after .before .before .before .before .before .before .before .before .before .before .before in
-    let at-loop = at-read .before .before .before in
-    at-after .after-read .kept .1 .1 .1 .1 .0 ∙ at-loop .loop .inv .2
-
-same-length-4 : tie.Need-same-length-4 Inv-loop μ-loop
-same-length-4 c =
-    let at-after = c .before .before .before .before .before .before .before .before .before .before .before .before .before in
-    let at-read = at-after .before .before .before .before .before .before .before .before .before .before .before in
-    let at-loop = at-read .before .before .before in
-    at-after .after-read .kept .1 .1 .1 .1 .1 .0 ∙ at-loop .loop .inv .3
-
-same-length-5 : tie.Need-same-length-5 Inv-loop μ-loop
-same-length-5 c =
-    let at-after = c .before .before .before .before .before .before .before .before .before .before .before .before .before in
-    let at-read = at-after .before .before .before .before .before .before .before .before .before .before .before in
-    let at-loop = at-read .before .before .before in
-    at-after .after-read .kept .1 .1 .1 .1 .1 .1 .0 ∙ at-loop .loop .inv .4
-
-same-length-6 : tie.Need-same-length-6 Inv-loop μ-loop
-same-length-6 c =
-    let at-after = c .before .before .before .before .before .before .before .before .before .before .before .before .before in
-    let at-read = at-after .before .before .before .before .before .before .before .before .before .before .before in
-    let at-loop = at-read .before .before .before in
-    at-after .after-read .kept .1 .1 .1 .1 .1 .1 .1 .0 ∙ at-loop .loop .inv .5
-
-same-length-7 : tie.Need-same-length-7 Inv-loop μ-loop
-same-length-7 c =
-    let at-after = c .before .before .before .before .before .before .before .before .before .before .before .before .before in
-    let at-read = at-after .before .before .before .before .before .before .before .before .before .before .before in
-    let at-loop = at-read .before .before .before in
-    at-read .read .kept .1 .0 ∙ at-loop .loop .inv .6
-
-same-length-8 : tie.Need-same-length-8 Inv-loop μ-loop
-same-length-8 c =
-    let at-after = c .before .before .before .before .before .before .before .before .before .before .before .before .before in
-    let at-read = at-after .before .before .before .before .before .before .before .before .before .before .before in
-    let at-loop = at-read .before .before .before in
-    at-after .after-read .kept .1 .1 .1 .1 .1 .1 .1 .1 .1 .0 ∙ at-loop .loop .inv .7
+    (at-after .after-read .kept .1 .1 .0 ∙ at-loop .loop .inv .0, at-after .after-read .kept .1 .1 .1 .0 ∙ at-loop .loop .inv .1, at-after .after-read .kept .1 .1 .1 .1 .0 ∙ at-loop .loop .inv .2, at-after .after-read .kept .1 .1 .1 .1 .1 .0 ∙ at-loop .loop .inv .3, at-after .after-read .kept .1 .1 .1 .1 .1 .1 .0 ∙ at-loop .loop .inv .4, at-after .after-read .kept .1 .1 .1 .1 .1 .1 .1 .0 ∙ at-loop .loop .inv .5, at-after .after-read .kept .1 .1 .1 .1 .1 .1 .1 .1 .0 ∙ at-loop .loop .inv .6, at-after .after-read .kept .1 .1 .1 .1 .1 .1 .1 .1 .1 .0 ∙ at-loop .loop .inv .7, at-read .read .kept .1 .0 ∙ at-loop .loop .inv .8, at-after .after-read .kept .1 .1 .1 .1 .1 .1 .1 .1 .1 .1 .1 .0 ∙ at-loop .loop .inv .9, omega (arith, at-loop .loop .inv .10), read-more _ _ (omega (arith, at-loop .loop .inv .10)) (c .enum-told .given .1) (at-loop .loop .inv .11) (at-after .after-read .ensures .0))
 
 returns : tie.Need-returns Inv-loop μ-loop
 returns c =
-    let at-after = c .before .before .before .before .before .before .before .before .before .before .before .before .before in
-    let at-read = at-after .before .before .before .before .before .before .before .before .before .before .before in
-    let at-loop = at-read .before .before .before in
-    let last = read-last _ _ (at-after .after-read .result .progress) (c .match .keys2) (at-loop .loop .inv .9) (at-after .after-read .ensures .0) in
+    let at-after = after-readOf c in
+    let last = read-last _ _ (at-after .after-read .result .progress) (c .match .keys2) (loopOf c .loop .inv .11) (at-after .after-read .ensures .0) in
     (last .0, (last .1, at-after .after-read .ensures .1))
 
-same-length-9 : tie.Need-same-length-9 Inv-loop μ-loop
-same-length-9 c = c .before .loop .inv .0
-
-same-length-10 : tie.Need-same-length-10 Inv-loop μ-loop
-same-length-10 c = c .before .loop .inv .1
-
-same-length-11 : tie.Need-same-length-11 Inv-loop μ-loop
-same-length-11 c = c .before .loop .inv .2
-
-same-length-12 : tie.Need-same-length-12 Inv-loop μ-loop
-same-length-12 c = c .before .loop .inv .3
-
-same-length-13 : tie.Need-same-length-13 Inv-loop μ-loop
-same-length-13 c = c .before .loop .inv .4
-
-same-length-14 : tie.Need-same-length-14 Inv-loop μ-loop
-same-length-14 c = c .before .loop .inv .5
-
-same-length-15 : tie.Need-same-length-15 Inv-loop μ-loop
-same-length-15 c = c .before .loop .inv .6
-
-same-length-16 : tie.Need-same-length-16 Inv-loop μ-loop
-same-length-16 c = c .before .loop .inv .7
-
 returns-2 : tie.Need-returns-2 Inv-loop μ-loop
-returns-2 c = (reads-spent (omega (arith, c .loop-test .left)) (c .before .loop .inv .9), (tt, refl))
+returns-2 c = (reads-spent (omega (arith, c .loop-test .left)) (c .before .loop .inv .11), (tt, refl))
 
 pub read-all-spec : {M : Type 1} → statement M
 read-all-spec =
@@ -152,27 +66,31 @@ read-all-spec =
     Inv-loop
     μ-loop
     loop-holds
-    sub-reads
-    read-requires
+    (λ c. omega arith)
+    (λ c κs. search needs)
     after-read-requires
-    enum-told
-    loop-less
+    (λ c. search needs)
+    (λ c. omega (arith, c .before .before .before .before .before .before .before .before .before .before .before .before .before .before .before .before .before .before .before .before .before .before .before .before .before .before .before .before .before .before .before .before .before .loop-test .taken))
     loop-again
-    same-length
-    same-length-2
-    same-length-3
-    same-length-4
-    same-length-5
-    same-length-6
-    same-length-7
-    same-length-8
+    (λ c. after-readOf c .after-read .kept .1 .1 .0 ∙ loopOf c .loop .inv .0)
+    (λ c. after-readOf c .after-read .kept .1 .1 .1 .0 ∙ loopOf c .loop .inv .1)
+    (λ c. after-readOf c .after-read .kept .1 .1 .1 .1 .0 ∙ loopOf c .loop .inv .2)
+    (λ c. after-readOf c .after-read .kept .1 .1 .1 .1 .1 .0 ∙ loopOf c .loop .inv .3)
+    (λ c. after-readOf c .after-read .kept .1 .1 .1 .1 .1 .1 .0 ∙ loopOf c .loop .inv .4)
+    (λ c. after-readOf c .after-read .kept .1 .1 .1 .1 .1 .1 .1 .0 ∙ loopOf c .loop .inv .5)
+    (λ c. after-readOf c .after-read .kept .1 .1 .1 .1 .1 .1 .1 .1 .0 ∙ loopOf c .loop .inv .6)
+    (λ c. after-readOf c .after-read .kept .1 .1 .1 .1 .1 .1 .1 .1 .1 .0 ∙ loopOf c .loop .inv .7)
+    (λ c. after-readOf c .before .before .before .before .before .before .before .before .before .before .before .before .before .read .kept .1 .0 ∙ loopOf c .loop .inv .8)
+    (λ c. after-readOf c .after-read .kept .1 .1 .1 .1 .1 .1 .1 .1 .1 .1 .1 .0 ∙ loopOf c .loop .inv .9)
     returns
-    same-length-9
-    same-length-10
-    same-length-11
-    same-length-12
-    same-length-13
-    same-length-14
-    same-length-15
-    same-length-16
+    (λ c. c .before .loop .inv .0)
+    (λ c. c .before .loop .inv .1)
+    (λ c. c .before .loop .inv .2)
+    (λ c. c .before .loop .inv .3)
+    (λ c. c .before .loop .inv .4)
+    (λ c. c .before .loop .inv .5)
+    (λ c. c .before .loop .inv .6)
+    (λ c. c .before .loop .inv .7)
+    (λ c. c .before .loop .inv .8)
+    (λ c. c .before .loop .inv .9)
     returns-2)

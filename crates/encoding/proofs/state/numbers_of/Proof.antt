@@ -9,8 +9,8 @@ use mir.Facts.{toZ-ofZ}
 use Rattle.window.specs.Queries.{countLimit}
 use Rattle.board.specs.declared.aggregate.Aggregate.{Aggregate}
 use Rattle.encoding.specs.Signed.{unsigned}
-use Rattle.encoding.specs.Written.{stateOf, registeredIn}
-use Rattle.encoding.proofs.States.{Within, written-numbers, state-again, registered-again}
+use Rattle.encoding.specs.Written.{stateOf}
+use Rattle.encoding.proofs.States.{Within, written-numbers, state-again}
 use borrow.Author.Needs.{needs}
 use Rattle.encoding.proofs.state.numbers_of.Statement.{statement}
 use Rattle.encoding.proofs.state.numbers_of.Tie as tie
@@ -44,7 +44,7 @@ returns c =
     let b2 = k .before in
     let h = holding k in
     let s = h .before .args .state in
-    let e = written-numbers s (h .before .args .registered) (b2 .before .wide .ensures) (b2 .wide2 .ensures) (b3 .wide3 .ensures) (k .case-of .ensures) (h .held-in .ensures)
+    let e = written-numbers s (b2 .before .wide .ensures) (b2 .wide2 .ensures) (b3 .wide3 .ensures) (k .case-of .ensures) (h .held-in .ensures)
     (u1 .unsigned .ensures ∙ ap unsigned (toZ-ofZ {w = w64} {z = h .held-in .result .sum} (record { sfits = t1 .struct-told .given .1 .0 .1 })))
     (u2 .unsigned2 .ensures ∙ ap unsigned (wide-is {z = h .held-in .result .maximum} (record { sfits = t2 .struct-told2 .given .1 .1 .0 .1 })))
     (u3 .unsigned3 .ensures ∙ ap unsigned (wide-is {z = h .held-in .result .minimum} (record { sfits = t3 .struct-told3 .given .1 .1 .1 .0 .1 })))
@@ -53,12 +53,12 @@ returns c =
     let w : Within s =
     record {
       count = omega (arith, h .before .good .0 .1 .1 .0 .1);
-      closed = omega (arith, h .before .good .0 .1 .1 .1 .1 .0 .1 .1 .0 .1);
+      closed = omega (arith, h .before .good .0 .1 .1 .1 .1 .1 .0 .1 .1 .0 .1);
       start = subst (λ (a : Aggregate). a .start ≤ countLimit) (h .held-in .ensures) (omega (arith, t1 .struct-told .given .0 .1));
       maximum = subst (λ (a : Aggregate). SFits w32 (a .maximum)) (h .held-in .ensures) (record { sfits = t2 .struct-told2 .given .1 .1 .0 .1 });
       minimum = subst (λ (a : Aggregate). SFits w32 (a .minimum)) (h .held-in .ensures) (record { sfits = t3 .struct-told3 .given .1 .1 .1 .0 .1 });
     } in
-    (e, (ap stateOf e ∙ state-again s (h .before .args .registered) w, ap registeredIn e ∙ registered-again s (h .before .args .registered) w))
+    (e, ap stateOf e ∙ state-again s w)
 
 pub numbers-of-spec : {M : Type 1} → statement M
 numbers-of-spec =

@@ -6,10 +6,11 @@ use Rattle.encoding.proofs.state.state_of.Tie as tie
 
 returns : tie.Need-returns
 returns c =
-    let b = c .before in
+    let n = c .before in
+    let b = n .before in
     let o = b .before in
     let h = o .before in
-    read-state (h .before .args .t1) (c .count-in .ensures) (h .held-of .ensures) (o .open-of .ensures) (b .board-of .ensures)
+    read-state (h .before .args .t1) (n .count-in .ensures) (c .registered-in .ensures) (h .held-of .ensures) (o .open-of .ensures) (b .board-of .ensures)
 
 pub state-of-spec : {M : Type 1} → statement M
 state-of-spec =
@@ -24,5 +25,6 @@ state-of-spec =
     (λ c κs. search needs)
     (λ c κs. search needs)
     (λ c. search needs)
+    (λ c κs. search needs)
     (λ c κs. search needs)
     returns)

@@ -8,20 +8,23 @@ use Rattle.engine.proofs.checks.judge.Statement.{statement}
 use Rattle.engine.proofs.checks.judge.Tie as tie
 
 returns : tie.Need-returns
-returns c = λ queries e. isShort (not-true _ (c .if1 .taken))
+returns c = λ list e. isShort (not-true _ (c .if1 .taken))
 
 returns-2 : tie.Need-returns-2
-returns-2 c = λ queries e. isDamaged (not-false _ (c .before .if1 .left)) (λ i. true≢false (sym (sym e ∙ c .if2 .taken) ∙ i .list))
+returns-2 c =
+    let l = not-false _ (c .before .if1 .left) in
+    λ list e. isDamaged l (λ i. true≢false (sym (e l ∙ i .list) ∙ not-true _ (c .if2 .taken)))
 
 returns-3 : tie.Need-returns-3
 returns-3 c =
     let f = c .before in
-    λ queries e. isDamaged (not-false _ (f .before .before .if1 .left)) (λ i. true≢false (sym (f .fits2 .ensures .1 (i .state)) ∙ not-true _ (c .if3 .taken)))
+    λ list e. isDamaged (not-false _ (f .before .before .if1 .left)) (λ i. true≢false (sym (f .fits2 .ensures .1 (i .state)) ∙ not-true _ (c .if3 .taken)))
 
 returns-4 : tie.Need-returns-4
 returns-4 c =
     let f = c .before in
-    λ queries e. isJudged (not-false _ (f .before .before .if1 .left)) (record { list = sym e ∙ f .before .if2 .left; state = f .fits2 .ensures .0 (not-false _ (c .if3 .left)) })
+    let l = not-false _ (f .before .before .if1 .left) in
+    λ list e. isJudged l (record { list = sym (e l) ∙ not-false _ (f .before .if2 .left); state = f .fits2 .ensures .0 (not-false _ (c .if3 .left)) })
 
 pub judge-spec : {M : Type 1} → statement M
 judge-spec = tie.close (tie.spec returns returns-2 (λ c κs. search needs) returns-3 returns-4)

@@ -3,16 +3,22 @@ use borrow.Author.Needs.{needs}
 use Rattle.window.specs.declared.refusal.Verdict.the-variants.{Passed}
 use Rattle.window.specs.Refusals.{firstRefusal, registerChecks}
 use Rattle.registry.specs.Records.{used}
-use Rattle.registry.proofs.Intact.{intact-few}
+use Rattle.registry.proofs.Intact.{fits-few}
 use Rattle.engine.proofs.Judging.{judged-first, judged-passed, judged-last}
 use Rattle.engine.proofs.checks.judge_register.Statement.{statement}
 use Rattle.engine.proofs.checks.judge_register.Tie as tie
 
+abbrev began : tie.After-judge-entry → tie.Start
+began j = j .before .before
+
+judge-entry-requires : tie.Need-judge-entry-requires
+judge-entry-requires c κs = c .before .pre
+
 returns : tie.Need-returns
 returns c =
     let j = c .before .before .before in
-    let a = j .before .before .args in
-    judged-first (a .long) (a .state) (a .queries) _ _ _ (j .judge .ensures (a .queries) (j .before .damaged .ensures)) (c .before .refusal .given .1)
+    let a = began j .args in
+    judged-first (a .long) (a .state) (a .list .now) _ _ _ (j .judge-entry .ensures) (c .before .refusal .given .1)
 
 enum-told : tie.Need-enum-told
 enum-told c = search needs
@@ -20,15 +26,15 @@ enum-told c = search needs
 check-register-requires : tie.Need-check-register-requires
 check-register-requires c κs =
     let j = c .before .before in
-    let a = j .before .before .args in
-    let i = judged-passed (a .long) (a .state) (a .queries) Passed _ (j .judge .ensures (a .queries) (j .before .damaged .ensures)) (c .enum-told .given .1) .1 in
-    intact-few (a .state .count) (a .queries .count) (used (a .queries)) (i .list)
+    let a = began j .args in
+    let i = judged-passed (a .long) (a .state) (a .list .now) Passed _ (j .judge-entry .ensures) (c .enum-told .given .1) in
+    (began j .pre (i .0), fits-few (a .state .count) (a .state .registered) (a .list .now) (i .1 .list))
 
 returns-2 : tie.Need-returns-2
 returns-2 c =
     let j = c .before .before .before in
-    let a = j .before .before .args in
-    judged-last (a .long) (a .state) (a .queries) (firstRefusal (registerChecks (used (a .queries)) (a .q .number) (a .q .kind) (a .q .range) (a .q .slide))) _ _ (j .judge .ensures (a .queries) (j .before .damaged .ensures)) (c .before .enum-told .given .1) (c .check-register .ensures)
+    let a = began j .args in
+    judged-last (a .long) (a .state) (a .list .now) (firstRefusal (registerChecks (used (a .state .registered) (a .list .now)) (a .q .number) (a .q .kind) (a .q .range) (a .q .slide))) _ _ (j .judge-entry .ensures) (c .before .enum-told .given .1) (c .check-register .ensures)
 
 pub judge-register-spec : {M : Type 1} → statement M
-judge-register-spec = tie.close (tie.spec (λ c κs. search needs) (λ c κs. search needs) (λ c. search needs) returns enum-told check-register-requires returns-2)
+judge-register-spec = tie.close (tie.spec judge-entry-requires (λ c. search needs) returns enum-told check-register-requires returns-2)

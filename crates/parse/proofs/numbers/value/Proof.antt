@@ -1,15 +1,16 @@
 -- `value` meets its contract: the cap on the way does not show at the end. Assumes nothing.
 use Prim.Native.Nat.{_+_, _*_, _≤_, _-_, min}
-use mathlib.Core.Path.{_≡_, refl, _∙_, ap}
-use lib.ListN.{length, drop}
+use mathlib.Core.Path.{_≡_, refl, sym, _∙_, ap}
 use native.Mathlib.Omega.{arith}
-use Rattle.parse.specs.Numbers.{digitsValue}
-use Rattle.parse.proofs.Digits.{value-more, value-end}
+use borrow.Author.Needs.{needs}
+use lib.ListN.{length, drop}
+use Rattle.parse.specs.Numbers.{valueOr}
+use Rattle.parse.proofs.Digits.{value-more, value-stop, value-end}
 use Rattle.parse.proofs.numbers.value.Statement.{statement}
 use Rattle.parse.proofs.numbers.value.Tie as tie
 
 abbrev Inv-loop : tie.InvT-loop
-Inv-loop s cap n₀ i₀ n i = (i ≤ length s) × ((n ≤ cap) × (min cap (digitsValue 0 s) ≡ min cap (digitsValue n (drop i s))))
+Inv-loop s cap n₀ i₀ n i = (i ≤ length s) × ((n ≤ cap) × (valueOr cap 0 s ≡ valueOr cap n (drop i s)))
 
 abbrev μ-loop : tie.MeasureT-loop
 μ-loop s cap n₀ i₀ n i = length s - i
@@ -17,38 +18,26 @@ abbrev μ-loop : tie.MeasureT-loop
 loop-holds : tie.Need-loop-holds Inv-loop μ-loop
 loop-holds c = (omega arith, (omega arith, refl))
 
-shared-slice-read-digit-value : tie.Need-shared-slice-read-digit-value Inv-loop μ-loop
-shared-slice-read-digit-value c = omega arith
-
-digit-value-requires : tie.Need-digit-value-requires Inv-loop μ-loop
-digit-value-requires c κs = omega arith
-
-mul-capped : tie.Need-mul-capped Inv-loop μ-loop
-mul-capped c = omega arith
-
-add-capped : tie.Need-add-capped Inv-loop μ-loop
-add-capped c = omega arith
-
-capped-requires : tie.Need-capped-requires Inv-loop μ-loop
-capped-requires c κs = omega arith
-
-add-i : tie.Need-add-i Inv-loop μ-loop
-add-i c = omega arith
-
-loop-less : tie.Need-loop-less Inv-loop μ-loop
-loop-less c = omega arith
+returns : tie.Need-returns Inv-loop μ-loop
+returns c =
+    let l = c .before .before .before in
+    value-stop _ _ _ _ _ (l .loop-test .taken) (sym (c .before .is-digit .ensures) ∙ c .if1 .left) (l .before .loop .inv .1 .1)
 
 loop-again : tie.Need-loop-again Inv-loop μ-loop
-loop-again c = (
-  omega arith,
-  (
-    omega arith,
-    value-more _ _ (c .before .before .before .loop-test .taken) _ _ _ _ (c .before .before .before .before .loop .inv .1 .1) (c .capped .ensures ∙ ap (λ k. min (c .before .before .before .before .before .before .args .cap) (c .before .before .before .before .loop .n * 10 + k)) (c .before .digit-value .ensures .0)),
-  ),
-)
+loop-again c =
+    let t = c .before .before in
+    let l = t .before .before .before in
+    let n = l .before .loop .n in
+    let cap = l .before .before .before .args .cap in (
+      omega arith,
+      (
+        omega arith,
+        value-more _ _ _ _ _ _ (l .loop-test .taken) (sym (t .before .is-digit .ensures) ∙ t .if1 .taken) (c .capped .ensures ∙ ap (λ k. min cap (n * 10 + k)) (c .before .digit-value .ensures .0)) (l .before .loop .inv .1 .1),
+      ),
+    )
 
-returns : tie.Need-returns Inv-loop μ-loop
-returns c = value-end _ _ (c .loop-test .left) _ _ _ (c .before .loop .inv .1 .0) (c .before .loop .inv .1 .1)
+returns-2 : tie.Need-returns-2 Inv-loop μ-loop
+returns-2 c = value-end _ _ _ _ _ (c .loop-test .left) (c .before .loop .inv .1 .0) (c .before .loop .inv .1 .1)
 
 pub value-spec : {M : Type 1} → statement M
 value-spec =
@@ -57,12 +46,15 @@ value-spec =
     Inv-loop
     μ-loop
     loop-holds
-    shared-slice-read-digit-value
-    digit-value-requires
-    mul-capped
-    add-capped
-    capped-requires
-    add-i
-    loop-less
+    (λ c. search needs)
+    (λ c κs. search needs)
+    (λ c. search needs)
+    (λ c κs. search needs)
+    (λ c. search needs)
+    (λ c κs. search needs)
+    (λ c. search needs)
+    returns
+    (λ c. search needs)
+    (λ c. search needs)
     loop-again
-    returns)
+    returns-2)

@@ -1,6 +1,6 @@
 -- `put_back` meets its contract. Assumes nothing.
 use Rattle.pchelodar_c.specs.PutBack.{nothingBack, allBack}
-use Rattle.encoding.proofs.Copies.{state-kept, list-kept}
+use Rattle.encoding.proofs.Copies.{state-kept}
 use borrow.Author.Needs.{needs}
 use Rattle.pchelodar_c.proofs.calls.put_back.Statement.{statement}
 use Rattle.pchelodar_c.proofs.calls.put_back.Tie as tie
@@ -14,12 +14,8 @@ returns c = rw (c .number .ensures) (nothingBack _ (c .before .before .verdict .
 returns-2 : tie.Need-returns-2
 returns-2 c =
     let s = c .before .before in
-    let l = s .before .before .before .before in
-    let v = l .before .before .before .before in
-    let b = v .before .before .before .before in
-    allBack (v .enum-told .given .1) (s .store-state .ensures .1 .0) (s .store-state .ensures .1 .1) (l .store-list .ensures .1)
-    (state-kept _ _ _ _ (b .pre .0) (s .store-state .ensures .0))
-    (list-kept _ _ _ (b .pre .1) (l .store-list .ensures .0) (l .store-list .ensures .1))
+    let v = s .before .before in
+    allBack (v .enum-told .given .1) (s .store-state .ensures .1) (state-kept _ _ _ (v .before .before .before .pre) (s .store-state .ensures .0))
 
 pub put-back-spec : {M : Type 1} → statement M
 put-back-spec =
@@ -29,8 +25,6 @@ put-back-spec =
     (λ c κs. search needs)
     enum-told
     (λ c κs. search needs)
-    (λ c κs. search needs)
     returns
-    (λ c. search needs)
     (λ c. search needs)
     returns-2)

@@ -1,5 +1,4 @@
 -- `put_reading_back` meets its contract. Assumes nothing.
-use mathlib.Core.Path.{_∙_}
 use Rattle.pchelodar_c.specs.PutBack.{refusedBack, stateBack}
 use Rattle.encoding.proofs.Copies.{state-kept}
 use borrow.Author.Needs.{needs}
@@ -12,10 +11,8 @@ returns c = rw (c .number .ensures) (refusedBack _ (c .before .before .outcome .
 returns-2 : tie.Need-returns-2
 returns-2 c =
     let s = c .before .before in
-    let l = s .before .before in
-    let o = l .before .before .before in
-    let b = o .before .before .before in
-    stateBack _ (o .outcome2 .given .1) (s .store-state .ensures .1 .0) (s .store-state .ensures .1 .1 ∙ l .load-registered .ensures) (state-kept _ _ _ _ (b .pre) (s .store-state .ensures .0))
+    let o = s .before .before .before in
+    stateBack _ (o .outcome2 .given .1) (s .store-state .ensures .1) (state-kept _ _ _ (o .before .before .before .pre) (s .store-state .ensures .0))
 
 pub put-reading-back-spec : {M : Type 1} → statement M
 put-reading-back-spec =
@@ -24,7 +21,6 @@ put-reading-back-spec =
     (λ c. search needs)
     (λ c κs. search needs)
     (λ c. search needs)
-    (λ c κs. search needs)
     (λ c κs. search needs)
     returns
     (λ c. search needs)

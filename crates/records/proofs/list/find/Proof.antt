@@ -44,7 +44,7 @@ use Rattle.registry.specs.Records.{placeOf}
 use Rattle.records.specs.LentList.{usedOf}
 use Rattle.records.specs.Edited.{usedIn}
 use Rattle.records.proofs.Editing.{found-all}
-use Rattle.registry.specs.declared.queries.Found.{Found}
+use Rattle.registry.specs.declared.find.Found.{Found}
 use Rattle.records.proofs.copy.load.Symbol as load-def
 use Rattle.records.proofs.copy.load.Symbol.{name as #load}
 use Rattle.records.proofs.copy.load.Met as load-thm

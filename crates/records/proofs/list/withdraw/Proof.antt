@@ -1,5 +1,5 @@
 -- `records::list::withdraw` meets its contract: a walk of its MIR, written by tools/walks. The records are copied, and
--- the callee is called on the copy. At the end the records are given up to what puts back.
+-- the callee is called on the copy. At the end the records are given up to `store`.
 -- Assumes nothing.
 use contract.Running.{givenOf, tables as tables-of, tablesOf}
 use mathlib.Core.Path.{_≡_, refl}

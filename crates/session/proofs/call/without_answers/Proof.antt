@@ -8,7 +8,7 @@ use Rattle.session.proofs.call.without_answers.Tie as tie
 returns : tie.Need-returns
 returns c =
     let reply = c .before .before .args .reply in
-    c .came-to .ensures ∙ ap (λ (o : Answered). record { outcome = o; state = reply .state; queries = reply .queries }) (c .before .no-answers .ensures)
+    c .came-to .ensures ∙ ap (λ (o : Answered). record { outcome = o; state = reply .state }) (c .before .no-answers .ensures)
 
 pub without-answers-spec : {M : Type 1} → statement M
 without-answers-spec = tie.close (tie.spec (λ c κs. search needs) (λ c κs. search needs) returns)

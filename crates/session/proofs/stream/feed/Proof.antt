@@ -1,5 +1,5 @@
--- `feed` meets its contract: nothing where the engine refuses every call, and else one line after the other. What was
--- taken so far is the session's bytes; the measure is how many bytes are left. Assumes nothing.
+-- `feed` meets its contract: nothing where all is refused, and else one line after the other. What was taken so far is
+-- the session's bytes; the measure is how many bytes are left. Assumes nothing.
 use mathlib.Core.Path.{refl, sym, _∙_}
 use Prim.Native.Nat.{_-_}
 use native.Mathlib.Omega.{arith}
@@ -8,77 +8,48 @@ use borrow.Author.Needs.{needs}
 use Rattle.board.specs.Tables.{tables}
 use Rattle.session.specs.Contracts.{held}
 use Rattle.session.proofs.Feeding.{Inside, streams-none, streams-next}
-use Rattle.session.proofs.Refusing.{not-fed, fed-lines}
+use Rattle.session.proofs.Refusing.{line-room, not-fed, fed-lines}
 use Rattle.session.proofs.Finishing.{goes-on, stopped}
 use Rattle.session.proofs.stream.feed.Statement.{statement}
 use Rattle.session.proofs.stream.feed.Tie as tie
 
 abbrev Inv-loop : tie.InvT-loop
-Inv-loop starts₀ sums₀ max-starts₀ max-values₀ min-starts₀ min-values₀ chunk from out₀ taken₀ answers₀ starts sums max-starts max-values min-starts min-values out taken answers =
-    Inside chunk from (held (taken₀ .session) (tables starts₀ sums₀ max-starts₀ max-values₀ min-starts₀ min-values₀)) out₀ (held (taken .session) (tables starts sums max-starts max-values min-starts min-values)) (taken .to) out (taken .at) answers
+Inv-loop list₀ line₀ starts₀ sums₀ max-starts₀ max-values₀ min-starts₀ min-values₀ chunk from out₀ taken₀ answers₀ list line starts sums max-starts max-values min-starts min-values out taken answers =
+    Inside chunk from (held (taken₀ .session) list₀ line₀ (tables starts₀ sums₀ max-starts₀ max-values₀ min-starts₀ min-values₀)) out₀ (held (taken .session) list line (tables starts sums max-starts max-values min-starts min-values)) (taken .to) out (taken .at) answers
 
 abbrev μ-loop : tie.MeasureT-loop
-μ-loop starts₀ sums₀ max-starts₀ max-values₀ min-starts₀ min-values₀ chunk from out₀ taken₀ answers₀ starts sums max-starts max-values min-starts min-values out taken answers =
+μ-loop list₀ line₀ starts₀ sums₀ max-starts₀ max-values₀ min-starts₀ min-values₀ chunk from out₀ taken₀ answers₀ list line starts sums max-starts max-values min-starts min-values out taken answers =
     length chunk - taken .to
-
-refuses-requires : tie.Need-refuses-requires Inv-loop μ-loop
-refuses-requires c κs = search needs
-
-same-length : tie.Need-same-length Inv-loop μ-loop
-same-length c = refl
-
-same-length-2 : tie.Need-same-length-2 Inv-loop μ-loop
-same-length-2 c = refl
-
-same-length-3 : tie.Need-same-length-3 Inv-loop μ-loop
-same-length-3 c = refl
-
-same-length-4 : tie.Need-same-length-4 Inv-loop μ-loop
-same-length-4 c = refl
-
-same-length-5 : tie.Need-same-length-5 Inv-loop μ-loop
-same-length-5 c = refl
-
-same-length-6 : tie.Need-same-length-6 Inv-loop μ-loop
-same-length-6 c = refl
 
 returns : tie.Need-returns Inv-loop μ-loop
 returns c = not-fed (c .before .refuses .ensures) (c .if1 .taken)
 
 loop-holds : tie.Need-loop-holds Inv-loop μ-loop
 loop-holds c =
-    let at-start = c .before .before .before .before .before .before .before .before .before .before .before .before .before in
-    record { streams = streams-none (at-start .args .chunk .now) (at-start .args .from) _ _ _; onward = omega arith; inside = λ h. h; beyond = λ h. refl; room = omega arith; asLong = refl; few = λ h. h; table = refl; still = λ e. (refl, (refl, (refl, refl))) }
-
-goes-on-requires : tie.Need-goes-on-requires Inv-loop μ-loop
-goes-on-requires c κs = omega arith
-
-slice-aggregate-rest-of-line : tie.Need-slice-aggregate-rest-of-line Inv-loop μ-loop
-slice-aggregate-rest-of-line c =
-    let at-loop = c .before .before .before .before .before .before .before .before .before in
-    sym (at-loop .loop .inv .table)
+    let at-start = c .before .before .before .before .before .before .before .before .before .before .before .before .before .before .before .before in
+    record { streams = streams-none (at-start .args .chunk .now) (at-start .args .from) _ _ _; onward = omega arith; inside = λ h. h; beyond = λ h. refl; room = omega arith; asLong = refl; few = λ h. h; table = refl; line = line-room _ _ (c .before .refuses .ensures) (c .if1 .left); still = λ e. (refl, (refl, refl)) }
 
 rest-of-line-requires : tie.Need-rest-of-line-requires Inv-loop μ-loop
 rest-of-line-requires c κs =
-    let at-then2 = c .before .before .before .before .before .before .before .before in
-    let at-loop = at-then2 .before .before in
+    let at-then2 = c .before .before .before .before .before .before .before .before .before .before in
+    let v = at-then2 .before .before .loop .inv in
     let g = goes-on _ _ _ _ _ (sym (at-then2 .before .goes-on .ensures) ∙ at-then2 .if2 .taken) in
-    ((at-loop .loop .inv .table, (g .1 .0, g .1 .1)), g .0)
+    ((v .table, (g .1 .0, g .1 .1)), (g .0, v .line))
 
 loop-less : tie.Need-loop-less Inv-loop μ-loop
 loop-less c =
-    let rest = c .before .before .before .before .before .before .before .before .before .before .before .before .rest-of-line .ensures in
+    let rest = c .before .before .before .before .before .before .before .before .before .before .before .before .before .before .before .before .rest-of-line .ensures in
     omega (arith, rest .onward, rest .inside)
 
 loop-again : tie.Need-loop-again Inv-loop μ-loop
 loop-again c =
-    let at-rest-of-line = c .before .before .before .before .before .before .before .before .before .before .before .before in
-    let at-then2 = at-rest-of-line .before .before .before .before .before .before .before .before .before in
+    let at-rest-of-line = c .before .before .before .before .before .before .before .before .before .before .before .before .before .before .before .before in
+    let at-then2 = at-rest-of-line .before .before .before .before .before .before .before .before .before .before .before in
     let at-loop = at-then2 .before .before in
-    let at-start = at-loop .before .before .before .before .before .before .before .before .before .before .before .before .before .before in
+    let at-start = at-loop .before .before .before .before .before .before .before .before .before .before .before .before .before .before .before .before .before in
     let v = at-loop .loop .inv in
     let rest = at-rest-of-line .rest-of-line .ensures in
-    let lengths = at-rest-of-line .rest-of-line .kept .1 .1 .1 .1 .1 .1 .1 in
+    let lengths = at-rest-of-line .rest-of-line .kept .1 .1 .1 .1 .1 .1 .1 .1 .1 in
     let going = goes-on _ _ _ _ _ (sym (at-then2 .before .goes-on .ensures) ∙ at-then2 .if2 .taken) in
     record {
       streams = streams-next (at-start .args .chunk .now) (at-start .args .from) _ _ (v .onward) (omega (arith, rest .onward)) (rest .inside) (v .streams) (rest .streams);
@@ -89,29 +60,9 @@ loop-again c =
       asLong = lengths .1 .1 .0 ∙ v .asLong;
       few = λ h. rest .few;
       table = lengths .0 ∙ v .table;
+      line = omega (arith, v .line, rest .streams .kept .line .asLong);
       still = λ e. absurd (omega (arith, e, rest .onward, v .onward));
     }
-
-same-length-7 : tie.Need-same-length-7 Inv-loop μ-loop
-same-length-7 c = c .before .before .loop .inv .streams .kept .starts .asLong
-
-same-length-8 : tie.Need-same-length-8 Inv-loop μ-loop
-same-length-8 c = c .before .before .loop .inv .streams .kept .sums .asLong
-
-same-length-9 : tie.Need-same-length-9 Inv-loop μ-loop
-same-length-9 c = c .before .before .loop .inv .streams .kept .maxStarts .asLong
-
-same-length-10 : tie.Need-same-length-10 Inv-loop μ-loop
-same-length-10 c = c .before .before .loop .inv .streams .kept .maxValues .asLong
-
-same-length-11 : tie.Need-same-length-11 Inv-loop μ-loop
-same-length-11 c = c .before .before .loop .inv .streams .kept .minStarts .asLong
-
-same-length-12 : tie.Need-same-length-12 Inv-loop μ-loop
-same-length-12 c = c .before .before .loop .inv .streams .kept .minValues .asLong
-
-same-length-13 : tie.Need-same-length-13 Inv-loop μ-loop
-same-length-13 c = c .before .before .loop .inv .asLong
 
 returns-2 : tie.Need-returns-2 Inv-loop μ-loop
 returns-2 c =
@@ -127,25 +78,28 @@ feed-spec =
     (tie.spec
     Inv-loop
     μ-loop
-    refuses-requires
-    same-length
-    same-length-2
-    same-length-3
-    same-length-4
-    same-length-5
-    same-length-6
+    (λ c κs. search needs)
+    (λ c. refl)
+    (λ c. refl)
+    (λ c. refl)
+    (λ c. refl)
+    (λ c. refl)
+    (λ c. refl)
+    (λ c. refl)
     returns
     loop-holds
-    goes-on-requires
-    slice-aggregate-rest-of-line
+    (λ c κs. omega arith)
+    (λ c. sym (c .before .before .before .before .before .before .before .before .before .before .before .loop .inv .table))
     rest-of-line-requires
     loop-less
     loop-again
-    same-length-7
-    same-length-8
-    same-length-9
-    same-length-10
-    same-length-11
-    same-length-12
-    same-length-13
+    (λ c. c .before .before .loop .inv .streams .kept .list .length)
+    (λ c. c .before .before .loop .inv .streams .kept .line .asLong)
+    (λ c. c .before .before .loop .inv .streams .kept .tables .starts .asLong)
+    (λ c. c .before .before .loop .inv .streams .kept .tables .sums .asLong)
+    (λ c. c .before .before .loop .inv .streams .kept .tables .maxStarts .asLong)
+    (λ c. c .before .before .loop .inv .streams .kept .tables .maxValues .asLong)
+    (λ c. c .before .before .loop .inv .streams .kept .tables .minStarts .asLong)
+    (λ c. c .before .before .loop .inv .streams .kept .tables .minValues .asLong)
+    (λ c. c .before .before .loop .inv .asLong)
     returns-2)

@@ -29,7 +29,7 @@ returns-3 : tie.Need-returns-3
 returns-3 c =
     let d = c .before .before .before .before .before .before .before .before .before in
     let p = d .before .before .before .before .before .before .before .before .before in
-    holding-closed _ _ _ _ _ _ _ _ (p .partial .given .1) refl (record { count = refl; partial = refl; board = d .close .ensures })
+    holding-closed _ _ _ _ _ _ _ _ (p .partial .given .1) refl (record { count = refl; registered = refl; partial = refl; board = d .close .ensures })
 
 pub close-open-spec : {M : Type 1} → statement M
 close-open-spec =

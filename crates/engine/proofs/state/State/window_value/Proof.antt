@@ -36,8 +36,23 @@ returns c h l k le =
 
 returns-2 : tie.Need-returns-2
 returns-2 c h l k le =
-    let w = c .before in
-    let e = w .before .before in
+    let t = c .before in
+    let w = t .before in
+    let e = w .before in
+    let s = e .before .before .before .before .before in
+    let from : w .window-start .result ≡ s .args .horizon = t .if2 .taken in
+    toZ-ofZ {w = w64} {z = c .value .result} (record { sfits = c .value .ok })
+    ∙ c .value .ensures
+    ∙ s .pre .2 .values (s .args .q .kind) .value h l k (subst (λ (x : ℕ). h ≤ x) (sym (w .window-start .ensures) ∙ from) le)
+    ∙ value-other (l .closed) (s .args .self .count) (s .args .q) (s .args .horizon) (sym from ∙ w .window-start .ensures) (e .if1 .left)
+
+value-from-requires : tie.Need-value-from-requires
+value-from-requires c κs = let s = c .before .before .before .before .before .before .before .before in (s .pre .0, s .pre .3)
+
+returns-3 : tie.Need-returns-3
+returns-3 c h l k le =
+    let w = c .before .before .before in
+    let e = w .before in
     let s = e .before .before .before .before .before in
     toZ-ofZ {w = w64} {z = c .value-from .result} (record { sfits = c .value-from .ok })
     ∙ c .value-from .ensures .value h l k (subst (λ (x : ℕ). h ≤ x) (sym (w .window-start .ensures)) le)
@@ -52,4 +67,6 @@ window-value-spec =
     returns
     (λ c κs. search needs)
     (λ c κs. search needs)
-    returns-2)
+    returns-2
+    value-from-requires
+    returns-3)

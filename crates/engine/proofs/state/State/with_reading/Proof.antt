@@ -1,10 +1,11 @@
 -- `State::with_reading` meets its contract: what is open is small enough for a reading to join. Assumes nothing.
 use mathlib.Core.Path.{ap, _∙_}
+use Prim.Native.Nat.{_+_}
 use borrow.Author.Needs.{needs}
 use mir.Facts.{toZ-ofZ}
 use Rattle.engine.specs.declared.partial.Open.{Open}
 use Rattle.engine.specs.Open.{openWith}
-use Rattle.engine.specs.States.{withReading, withPartial}
+use Rattle.engine.specs.declared.state.State.{State}
 use native.Mathlib.Omega.{arith}
 use Rattle.ints.proofs.Sizes.{small-more}
 use Rattle.deque.specs.Sums.{sumLimit}
@@ -20,7 +21,7 @@ returns : tie.Need-returns
 returns c =
     let s = c .before .before .before in
     let st = s .args .self in
-    ap (λ (o : Open). withPartial o (withReading (s .args .value) st))
+    ap {B = State} (λ (o : Open). record { count = st .count + 1; registered = st .registered; partial = o; board = st .board })
     (c .before .before .extended .ensures ∙ ap (λ v. openWith (st .count) v (st .partial)) (toZ-ofZ (s .fits .value)))
 
 pub with-reading-spec : {M : Type 1} → statement M
