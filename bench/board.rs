@@ -1,7 +1,6 @@
-// The slices that are lent to every call, as arrays of just the places that are needed.
-use crate::pchelodar::{QUERY_LIMIT, STATE_NUMBERS, TABLE_PLACES};
-
-pub const LIST_NUMBERS: usize = 5 * QUERY_LIMIT;
+// The slices that are lent to every call, as arrays of just the places that are needed. The query list is numbers here:
+// what they stand for the wrapper knows.
+use crate::pchelodar::{LIST_NUMBERS, STATE_NUMBERS, TABLE_PLACES};
 
 #[derive(Clone)]
 pub struct Board {

@@ -7,6 +7,8 @@ mod board; // the slices that are lent to every call
 mod clock; // processor time
 #[path = "engine/contender.rs"]
 mod contender; // what every contender does, and the loops that drive it
+#[path = "engine/count.rs"]
+mod count; // one contender for an instruction count
 #[path = "engine/field.rs"]
 mod field; // the contenders by name
 #[cfg(not(without_library))]
@@ -51,6 +53,7 @@ fn main() {
     let outcome = match options::parse(&arguments) {
         Ok(Mode::Compare { rounds, pictures }) => compare(rounds, &pictures),
         Ok(Mode::Profile { configuration, contender, seconds }) => profile::run(configuration, contender, seconds),
+        Ok(Mode::Count { configuration, contender }) => count::run(configuration, contender),
         Err(message) => Err(format!("{message}\n{}", options::USAGE)),
     };
     if let Err(message) = outcome {
@@ -64,7 +67,7 @@ fn compare(rounds: usize, pictures: &Path) -> Result<(), String> {
     let configurations = workload::table_configurations();
     let measured = measure::measure(&[configurations.clone(), workload::picture_configurations()].concat(), rounds)?;
     let (table, _) = measured.split_at(configurations.len());
-    report::print(table, rounds, measure::empty_loop());
+    report::print(table, rounds);
     summary::print(table);
     picture::write(&measured, pictures).map_err(|e| format!("{}: {e}", pictures.display()))
 }

@@ -1,8 +1,7 @@
 // The stack that each of the five calls takes: the most over a run of varied calls, refused ones and damaged boards
 // among them.
-use crate::board::LIST_NUMBERS;
 use crate::lent::{Lent, SLICES};
-use crate::pchelodar::{raw, STATE_NUMBERS};
+use crate::pchelodar::{raw, LIST_NUMBERS, STATE_NUMBERS};
 use crate::random::Random;
 use crate::stack::{stacked_bytes, Stack};
 

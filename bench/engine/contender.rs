@@ -2,6 +2,7 @@
 // for a reading is inlined in none, as the library's cannot be.
 use crate::workload::Values;
 use std::hint::black_box;
+use std::time::Instant;
 
 pub const SUM: u32 = 1;
 pub const COUNT: u32 = 2;
@@ -54,6 +55,10 @@ pub trait Driven {
 
     // The same with a checksum of every answer, continued from an earlier one.
     fn feed_checked(&mut self, values: Values, from: u32, to: u32, checksum: u64) -> u64;
+
+    // Feeds a reading for each place, from `from` + 1 on, and lowers the place to the nanoseconds that the reading took
+    // on the clock, where it took fewer.
+    fn feed_singly(&mut self, values: Values, from: u32, least: &mut [u64]);
 }
 
 impl<C: Contender> Driven for C {
@@ -85,6 +90,17 @@ impl<C: Contender> Driven for C {
             }
         }
         checksum
+    }
+
+    fn feed_singly(&mut self, values: Values, from: u32, least: &mut [u64]) {
+        let mut answers = [0; ANSWER_PLACES * QUERY_LIMIT];
+        for (n, least) in (from..).zip(least) {
+            let value = values.at(n);
+            let begin = Instant::now();
+            black_box(self.reading(value, &mut answers));
+            *least = (*least).min(begin.elapsed().as_nanos() as u64);
+            black_box(&mut answers);
+        }
     }
 }
 

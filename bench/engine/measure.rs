@@ -2,17 +2,21 @@
 use crate::clock;
 use crate::contender::{Answers, Contender, Driven, Query};
 use crate::field::Name;
-use crate::workload::{Configuration, Values};
+use crate::shared::Shared;
+use crate::workload::{Configuration, Order, Values};
 
 // Readings whose answers are compared before the first round; every window is full long before.
 const CHECKED: u32 = 16_384;
 const WHOLE: u32 = 7 * 64; // every measurement is a whole number of these, so of every slide
 const TRIAL: u64 = 4_000_000; // nanoseconds that a trial has to take to tell the speed
 const ROUND: u64 = 40_000_000; // nanoseconds that a measurement is meant to take
+pub const SINGLE: u32 = 10 * WHOLE; // readings that are timed one by one, more than a ring has places
+pub const REPEATS: usize = 4; // how often they are in a round
 
 pub struct Measured {
     pub configuration: Configuration,
     times: Vec<Vec<f64>>, // nanoseconds a reading, by contender and round; empty where a contender is left out
+    singles: Vec<Vec<u64>>, // the least nanoseconds of each single reading, by contender
 }
 
 impl Measured {
@@ -30,6 +34,11 @@ impl Measured {
         let rounds = self.of(name).iter().zip(self.of(to)).map(|(a, b)| a / b).collect();
         let [_, least, greatest] = spread(rounds)?;
         Some([self.time(name)?[0] / self.time(to)?[0], least, greatest])
+    }
+
+    // Nanoseconds of the slowest single reading.
+    pub fn worst(&self, name: Name) -> Option<u64> {
+        self.singles[name as usize].iter().max().copied()
     }
 }
 
@@ -81,18 +90,18 @@ impl Runner {
 }
 
 // Each contender on its first readings. Their answers have to be equal, and so do the totals of those that count
-// partials.
+// partials. The numbers of the queries are in the answers, so plain_shared answers in both orders.
 fn field(configuration: Configuration) -> Result<Vec<Runner>, String> {
-    let mut runners = Vec::new();
-    let (mut checksums, mut totals) = (Vec::new(), Vec::new());
+    let checksum = |order| configuration.set_up(&mut Shared::<false>::new(), order, CHECKED);
+    let expected = [Order::Mixed, Order::Ascending].map(checksum);
+    let (mut runners, mut totals) = (Vec::new(), Vec::new());
     for name in Name::ALL {
         let Some(mut contender) = name.fresh() else { continue };
-        checksums.push((name, configuration.set_up(&mut *contender, CHECKED)));
+        if configuration.set_up(&mut *contender, name.order(), CHECKED) != expected[name.order() as usize] {
+            return Err(format!("{configuration}: {} and plain_shared answer differently", name.text()));
+        }
         totals.extend(contender.totals().map(|t| (name, t)));
         runners.push(Runner { name, contender, taken: CHECKED, a_round: 0 });
-    }
-    if checksums.iter().any(|c| c.1 != checksums[0].1) {
-        return Err(format!("{configuration}: the answers differ: {checksums:x?}"));
     }
     if totals.iter().any(|t| t.1 != totals[0].1) {
         return Err(format!("{configuration}: the totals differ: {totals:?}"));
@@ -112,17 +121,30 @@ impl Race {
         for runner in &mut runners {
             runner.calibrate(configuration)?
         }
-        Ok(Race { runners, measured: Measured { configuration, times: vec![Vec::new(); Name::ALL.len()] } })
+        let (times, singles) = (vec![Vec::new(); Name::ALL.len()], vec![Vec::new(); Name::ALL.len()]);
+        Ok(Race { runners, measured: Measured { configuration, times, singles } })
     }
 
     // Every contender runs once; next time the order is reversed.
     fn round(&mut self) -> Result<(), String> {
+        let Measured { configuration, times, singles } = &mut self.measured;
         for runner in &mut self.runners {
-            let time = runner.run(self.measured.configuration, runner.a_round)?;
-            self.measured.times[runner.name as usize].push(time as f64 / runner.a_round as f64);
+            let time = runner.run(*configuration, runner.a_round)?;
+            times[runner.name as usize].push(time as f64 / runner.a_round as f64);
+            time_singly(*configuration, runner.name, &mut singles[runner.name as usize]);
         }
         self.runners.reverse();
         Ok(())
+    }
+}
+
+// The contender from a start, until every window is full, and then reading by reading. These readings are always the
+// same, so what disturbs one of them some of the times is not in its least time.
+fn time_singly(configuration: Configuration, name: Name, least: &mut Vec<u64>) {
+    least.resize(SINGLE as usize, u64::MAX);
+    for mut contender in (0..REPEATS).filter_map(|_| name.fresh()) {
+        configuration.set_up(&mut *contender, name.order(), SINGLE);
+        contender.feed_singly(configuration.values, SINGLE, least);
     }
 }
 
@@ -162,4 +184,11 @@ pub fn empty_loop() -> f64 {
         (clock::now() - before) as f64 / readings as f64
     });
     spread(times.collect()).map_or(0.0, |s| s[0])
+}
+
+// Nanoseconds of the slowest single reading without an engine, so of a look at the clock. They are in every such time.
+pub fn empty_single() -> u64 {
+    let mut least = [u64::MAX; SINGLE as usize];
+    (0..5 * REPEATS).for_each(|_| Nothing.feed_singly(Values::Random, 0, &mut least));
+    least.into_iter().fold(0, u64::max)
 }

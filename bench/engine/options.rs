@@ -6,20 +6,23 @@ use std::path::PathBuf;
 pub const USAGE: &str = "\
 usage: engine [--rounds N] [--pictures FOLDER]
        engine --profile QUERIES,RANGE,SLIDE,VALUES [--contender NAME] [--seconds N]
+       engine --count QUERIES,RANGE,SLIDE,VALUES [--contender NAME]
   --rounds N         measurements of each contender in each configuration, 1 to 999; 5 if not given
   --pictures FOLDER  where the pictures go; target/bench if not given
   --profile ...      one contender on one configuration, for a profiler: as 8,256,7,random (or rising, falling)
-  --contender NAME   library (if not given), reevaluate, per_query, plain_shared, plain_remainders
+  --count ...        the same for callgrind: it collects counted_readings, whose number is printed
+  --contender NAME   library (if not given), library_ascending, reevaluate, per_query, plain_shared, plain_remainders
   --seconds N        processor seconds, 1 to 999; 5 if not given";
 
 pub enum Mode {
     Compare { rounds: usize, pictures: PathBuf },
     Profile { configuration: Configuration, contender: Name, seconds: u64 },
+    Count { configuration: Configuration, contender: Name },
 }
 
 pub fn parse(arguments: &[String]) -> Result<Mode, String> {
     let (mut rounds, mut seconds, mut contender) = (5, 5, Name::Library);
-    let (mut pictures, mut profiled) = (PathBuf::from("target/bench"), None);
+    let (mut pictures, mut profiled, mut counted) = (PathBuf::from("target/bench"), None, None);
     for pair in arguments.chunks(2) {
         let [option, value] = pair else { return Err(format!("{} is unknown or lacks its value", pair[0])) };
         match option.as_str() {
@@ -28,12 +31,14 @@ pub fn parse(arguments: &[String]) -> Result<Mode, String> {
             "--pictures" => pictures = PathBuf::from(value),
             "--contender" => contender = name(value)?,
             "--profile" => profiled = Some(configuration(value)?),
+            "--count" => counted = Some(configuration(value)?),
             _ => return Err(format!("{option} is unknown")),
         }
     }
-    Ok(match profiled {
-        Some(configuration) => Mode::Profile { configuration, contender, seconds },
-        None => Mode::Compare { rounds, pictures },
+    Ok(match (profiled, counted) {
+        (Some(configuration), _) => Mode::Profile { configuration, contender, seconds },
+        (_, Some(configuration)) => Mode::Count { configuration, contender },
+        _ => Mode::Compare { rounds, pictures },
     })
 }
 

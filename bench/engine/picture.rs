@@ -18,7 +18,7 @@ pub fn write(measured: &[Measured], folder: &Path) -> io::Result<()> {
 
 fn style(name: Name) -> Style {
     let (colour, width, dash, marker) = match name {
-        Name::Library => ("#0072b2", 2.8, "none", Marker::Circle),
+        Name::Library | Name::LibraryAscending => ("#0072b2", 2.8, "none", Marker::Circle),
         Name::Reevaluate => ("#808080", 1.8, "none", Marker::Square),
         Name::PerQuery => ("#d55e00", 1.8, "none", Marker::Triangle),
         Name::PlainShared => ("#009e73", 1.8, "none", Marker::Diamond),
@@ -28,13 +28,14 @@ fn style(name: Name) -> Style {
 }
 
 // A series for each contender: `time` gives the nanoseconds at a place of the horizontal axis. The library is drawn
-// last, above the others.
+// last, above the others, and once: ascending numbers are in the tables alone.
 fn series(ticks: &[f64], time: impl Fn(Name, f64) -> Option<f64>) -> Vec<Series> {
     let series = |name| Series {
         style: style(name),
         points: ticks.iter().filter_map(|x| Some((*x, time(name, *x)?))).collect(),
     };
-    Name::ALL.into_iter().rev().map(series).filter(|s| !s.points.is_empty()).collect()
+    let drawn = Name::ALL.into_iter().rev().filter(|name| *name != Name::LibraryAscending);
+    drawn.map(series).filter(|s| !s.points.is_empty()).collect()
 }
 
 fn over_range(measured: &[Measured]) -> Figure {

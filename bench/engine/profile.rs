@@ -10,7 +10,7 @@ const MOST: u32 = 4_000_000_000; // readings before the contender is made anew: 
 pub fn run(configuration: Configuration, name: Name, seconds: u64) -> Result<(), String> {
     let fresh = || name.fresh().ok_or(format!("{} is left out of this build", name.text()));
     let (mut contender, mut taken, mut total) = (fresh()?, WARM_UP, 0u64);
-    configuration.set_up(&mut *contender, WARM_UP);
+    configuration.set_up(&mut *contender, name.order(), WARM_UP);
     let begin = clock::now();
     let time = loop {
         contender.feed(configuration.values, taken, taken + BATCH);
@@ -22,7 +22,7 @@ pub fn run(configuration: Configuration, name: Name, seconds: u64) -> Result<(),
         }
         if taken > MOST {
             contender = fresh()?;
-            configuration.set_up(&mut *contender, WARM_UP);
+            configuration.set_up(&mut *contender, name.order(), WARM_UP);
             taken = WARM_UP;
         }
     };

@@ -1,20 +1,22 @@
 // Tables in Markdown on standard output.
 use crate::field::Name;
 use crate::find;
-use crate::measure::Measured;
+use crate::measure::{self, Measured};
 use crate::workload::{Configuration, Values, QUERIES, RANGES, SLIDES};
 
-pub fn print(measured: &[Measured], rounds: usize, empty: f64) {
+pub fn print(measured: &[Measured], rounds: usize) {
     println!("# Nanoseconds a reading\n");
     println!(
         "Rounds: {rounds}. Medians, processor time. A ratio is that of the medians; behind it the least and greatest of \
          a round."
     );
     println!(
-        "The loop around the contenders, without an engine, takes {empty:.1} ns a reading; it is in every time.\n"
+        "The loop around the contenders, without an engine, takes {:.1} ns a reading; it is in every time.\n",
+        measure::empty_loop()
     );
     random_table(measured);
     monotonic_table(measured);
+    worst_table(measured, rounds);
 }
 
 // One table row.
@@ -81,15 +83,42 @@ fn random_table(measured: &[Measured]) {
 // Rising and falling values side by side, in short.
 fn monotonic_table(measured: &[Measured]) {
     println!("## Rising and falling values\n");
-    println!("First the five columns for rising values, then the same for falling ones.\n");
-    let columns = ["library", "per_query", "plain_shared", "library / per_query", "library / plain_shared"];
+    println!("First the six columns for rising values, then the same for falling ones.\n");
+    let names = [Name::Library, Name::LibraryAscending, Name::PerQuery, Name::PlainShared];
+    let columns = [&names.map(Name::text)[..], &["library / per_query", "library / plain_shared"]].concat();
     head(&[&["queries", "range", "slide"], &columns[..], &columns[..]].concat());
     for (queries, range, slide) in shapes() {
         let mut cells = vec![queries.to_string(), range.to_string(), slide.to_string()];
         for values in [Values::Rising, Values::Falling] {
             let Some(m) = find(measured, queries, range, slide, values) else { continue };
-            cells.extend([Name::Library, Name::PerQuery, Name::PlainShared].map(|name| nanoseconds(m.time(name))));
+            cells.extend(names.map(|name| nanoseconds(m.time(name))));
             cells.extend([Name::PerQuery, Name::PlainShared].map(|name| short(m.ratio(Name::Library, name))));
+        }
+        row(&cells);
+    }
+    println!();
+}
+
+// The slowest single reading of each contender.
+fn worst_table(measured: &[Measured], rounds: usize) {
+    println!("## The slowest single reading\n");
+    println!(
+        "Nanoseconds on the clock, a look at which takes {} and is in them. The slowest of {} readings, each the \
+         fastest of {} times.",
+        measure::empty_single(),
+        measure::SINGLE,
+        rounds * measure::REPEATS
+    );
+    println!("First the columns for random values, then three for rising values and three for falling ones.\n");
+    let monotonic = [Name::Library, Name::PerQuery, Name::PlainShared];
+    let groups = [(Values::Random, &Name::ALL[..]), (Values::Rising, &monotonic), (Values::Falling, &monotonic)];
+    let columns: Vec<&str> = groups.iter().flat_map(|(_, names)| names.iter().map(|name| name.text())).collect();
+    head(&[&["queries", "range", "slide"], &columns[..]].concat());
+    for (queries, range, slide) in shapes() {
+        let mut cells = vec![queries.to_string(), range.to_string(), slide.to_string()];
+        for (values, names) in groups {
+            let Some(m) = find(measured, queries, range, slide, values) else { continue };
+            cells.extend(names.iter().map(|name| m.worst(*name).map_or("-".to_string(), |ns| ns.to_string())));
         }
         row(&cells);
     }

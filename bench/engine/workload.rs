@@ -3,6 +3,7 @@ use crate::contender::{Driven, Query};
 use std::fmt;
 
 const STAGGER: u32 = 5; // readings between two registrations
+const NUMBER_LIMIT: u32 = 65_535; // the greatest number of a query
 
 // A stream is a function of the number of readings before, so that it needs no memory and every contender sees the same
 // one.
@@ -40,6 +41,24 @@ fn scattered(n: u32) -> i32 {
     (folded >> 32) as i32
 }
 
+// How the numbers of the queries go, from one registration to the next.
+#[derive(Clone, Copy, PartialEq, Debug)]
+pub enum Order {
+    Mixed,
+    Ascending,
+}
+
+impl Order {
+    // The number of the query that is registered after so many others. The mixed ones are always the same, and
+    // distinct: the library refuses a number that it has.
+    fn number(self, others: u32) -> u32 {
+        match self {
+            Order::Mixed => NUMBER_LIMIT - scattered(others) as u32 % NUMBER_LIMIT,
+            Order::Ascending => others + 1,
+        }
+    }
+}
+
 #[derive(Clone, Copy, PartialEq)]
 pub struct Configuration {
     pub queries: usize,
@@ -57,10 +76,11 @@ impl fmt::Display for Configuration {
 impl Configuration {
     // Registers the queries, a few readings apart, feeds readings until `to` were taken, and returns the checksum of
     // all answers.
-    pub fn set_up(&self, contender: &mut dyn Driven, to: u32) -> u64 {
+    pub fn set_up(&self, contender: &mut dyn Driven, order: Order, to: u32) -> u64 {
         let (mut taken, mut checksum) = (0, 0);
         for i in 0..self.queries as u32 {
-            contender.register(Query { number: i + 1, kind: i % 4 + 1, range: self.range, slide: self.slide });
+            let Configuration { range, slide, .. } = *self;
+            contender.register(Query { number: order.number(i), kind: i % 4 + 1, range, slide });
             checksum = contender.feed_checked(self.values, taken, taken + STAGGER, checksum);
             taken += STAGGER;
         }
