@@ -1,23 +1,19 @@
 // The five calls on an array of records, which is lent for the call.
-use engine::calls::ReadingReply;
-use engine::calls::Reply;
-use engine::calls::TotalsReply;
+use crate::returns::Now;
+use crate::returns::after_change;
+use crate::returns::after_reading;
+use crate::returns::after_totals;
 use engine::state::State;
 use lent::calls;
 use window::count::Count;
 use window::query::Query;
+ghost use mathlib.Core.List.{[]};
 ghost use Rattle.window.specs.Calls.{register, withdraw, totals};
 ghost use Rattle.board.specs.Tables.{tables};
-ghost use Rattle.engine.specs.Outcomes.{verdictOutcome, readingOutcome, totalsOutcome};
 ghost use Rattle.engine.specs.Contracts.{StartEnsures, Ensures};
 ghost use Rattle.lent.specs.Lent.{lent};
 ghost use Rattle.lent.specs.Contracts.{OnLent, ReadingOnLent};
-
-// What a call comes to, and the records after it.
-pub struct Replied {
-    pub reply: Reply,
-    pub list: [Query; 32],
-}
+ghost use Rattle.demo.specs.Returns.{outcomeOf};
 
 // A start.
 pub fn start(
@@ -29,11 +25,11 @@ pub fn start(
     max_values: &mut [i32],
     min_starts: &mut [Count],
     min_values: &mut [i32],
-) -> Replied
+) -> Now
     ensures { λ r. ⌜ OnLent StartEnsures
         (lent state list (tables (now (starts .entry)) (now (sums .entry)) (now («max_starts» .entry)) (now («max_values» .entry)) (now («min_starts» .entry)) (now («min_values» .entry))))
-        (verdictOutcome (r .reply .verdict))
-        (lent (r .reply .state) (r .list) (tables (now (starts .exit)) (now (sums .exit)) (now («max_starts» .exit)) (now («max_values» .exit)) (now («min_starts» .exit)) (now («min_values» .exit)))) ⌝ }
+        (outcomeOf (r .returned) [])
+        (lent (r .state) (r .list) (tables (now (starts .exit)) (now (sums .exit)) (now («max_starts» .exit)) (now («max_values» .exit)) (now («min_starts» .exit)) (now («min_values» .exit)))) ⌝ }
 {
     let mut records = list;
     let reply = calls::start(
@@ -46,10 +42,7 @@ pub fn start(
         min_starts,
         min_values,
     );
-    Replied {
-        reply,
-        list: records,
-    }
+    after_change(reply, records)
 }
 
 // A registration.
@@ -66,11 +59,11 @@ pub fn register(
     kind: u32,
     range: u32,
     slide: u32,
-) -> Replied
+) -> Now
     ensures { λ r. ⌜ OnLent (Ensures (register number kind range slide))
         (lent state list (tables (now (starts .entry)) (now (sums .entry)) (now («max_starts» .entry)) (now («max_values» .entry)) (now («min_starts» .entry)) (now («min_values» .entry))))
-        (verdictOutcome (r .reply .verdict))
-        (lent (r .reply .state) (r .list) (tables (now (starts .exit)) (now (sums .exit)) (now («max_starts» .exit)) (now («max_values» .exit)) (now («min_starts» .exit)) (now («min_values» .exit)))) ⌝ }
+        (outcomeOf (r .returned) [])
+        (lent (r .state) (r .list) (tables (now (starts .exit)) (now (sums .exit)) (now («max_starts» .exit)) (now («max_values» .exit)) (now («min_starts» .exit)) (now («min_values» .exit)))) ⌝ }
 {
     let mut records = list;
     let reply = calls::register(
@@ -87,10 +80,7 @@ pub fn register(
         range,
         slide,
     );
-    Replied {
-        reply,
-        list: records,
-    }
+    after_change(reply, records)
 }
 
 // A withdrawal.
@@ -104,11 +94,11 @@ pub fn withdraw(
     min_starts: &[Count],
     min_values: &[i32],
     number: u32,
-) -> Replied
+) -> Now
     ensures { λ r. ⌜ OnLent (Ensures (withdraw number))
         (lent state list (tables (now (starts .entry)) (now (sums .entry)) (now («max_starts» .entry)) (now («max_values» .entry)) (now («min_starts» .entry)) (now («min_values» .entry))))
-        (verdictOutcome (r .reply .verdict))
-        (lent (r .reply .state) (r .list) (tables (now (starts .entry)) (now (sums .entry)) (now («max_starts» .entry)) (now («max_values» .entry)) (now («min_starts» .entry)) (now («min_values» .entry)))) ⌝ }
+        (outcomeOf (r .returned) [])
+        (lent (r .state) (r .list) (tables (now (starts .entry)) (now (sums .entry)) (now («max_starts» .entry)) (now («max_values» .entry)) (now («min_starts» .entry)) (now («min_values» .entry)))) ⌝ }
 {
     let mut records = list;
     let reply = calls::withdraw(
@@ -122,13 +112,10 @@ pub fn withdraw(
         min_values,
         number,
     );
-    Replied {
-        reply,
-        list: records,
-    }
+    after_change(reply, records)
 }
 
-// A reading, which writes no record.
+// A reading.
 pub fn reading(
     state: State,
     list: [Query; 32],
@@ -140,14 +127,14 @@ pub fn reading(
     min_values: &mut [i32],
     answers: &mut [i64],
     value: i32,
-) -> ReadingReply
+) -> Now
     ensures { λ r. ⌜ ReadingOnLent value (now (answers .entry)) (now (answers .exit))
         (lent state list (tables (now (starts .entry)) (now (sums .entry)) (now («max_starts» .entry)) (now («max_values» .entry)) (now («min_starts» .entry)) (now («min_values» .entry))))
-        (readingOutcome (r .outcome) (now (answers .exit)))
-        (lent (r .state) list (tables (now (starts .exit)) (now (sums .exit)) (now («max_starts» .exit)) (now («max_values» .exit)) (now («min_starts» .exit)) (now («min_values» .exit)))) ⌝ }
+        (outcomeOf (r .returned) (now (answers .exit)))
+        (lent (r .state) (r .list) (tables (now (starts .exit)) (now (sums .exit)) (now («max_starts» .exit)) (now («max_values» .exit)) (now («min_starts» .exit)) (now («min_values» .exit)))) ⌝ }
 {
     let records = list;
-    calls::reading(
+    let reply = calls::reading(
         state,
         &records,
         starts,
@@ -158,10 +145,11 @@ pub fn reading(
         min_values,
         answers,
         value,
-    )
+    );
+    after_reading(reply, records)
 }
 
-// Totals, which write none either.
+// Totals.
 pub fn totals(
     state: State,
     list: [Query; 32],
@@ -171,14 +159,14 @@ pub fn totals(
     max_values: &[i32],
     min_starts: &[Count],
     min_values: &[i32],
-) -> TotalsReply
+) -> Now
     ensures { λ r. ⌜ OnLent (Ensures totals)
         (lent state list (tables (now (starts .entry)) (now (sums .entry)) (now («max_starts» .entry)) (now («max_values» .entry)) (now («min_starts» .entry)) (now («min_values» .entry))))
-        (totalsOutcome r)
-        (lent state list (tables (now (starts .entry)) (now (sums .entry)) (now («max_starts» .entry)) (now («max_values» .entry)) (now («min_starts» .entry)) (now («min_values» .entry)))) ⌝ }
+        (outcomeOf (r .returned) [])
+        (lent (r .state) (r .list) (tables (now (starts .entry)) (now (sums .entry)) (now («max_starts» .entry)) (now («max_values» .entry)) (now («min_starts» .entry)) (now («min_values» .entry)))) ⌝ }
 {
     let records = list;
-    calls::totals(
+    let reply = calls::totals(
         state,
         &records,
         starts,
@@ -187,5 +175,6 @@ pub fn totals(
         max_values,
         min_starts,
         min_values,
-    )
+    );
+    after_totals(reply, state, records)
 }

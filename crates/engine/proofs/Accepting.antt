@@ -219,6 +219,7 @@ accepted-reading v before after m k given st′ t′ passed small took reply ret
           (λ s rep. rw (reads, same-answers s rep, sym (took .number), same-answers s rep));
       places = took .written ∙ sym (ap (λ (x : List Answer). answeredPlaces x before) reads);
       uncut = λ e. (subst (λ (b : Bool). ClosedWhere b (horizon (m .state .count + 1) (queriesOf m)) (withReading v (m .state)) (m .tables) st′ t′) e (took .closed)) .1;
+      alone = registered;
     })
   where
     c : Call

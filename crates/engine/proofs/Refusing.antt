@@ -101,7 +101,7 @@ pub refused-reading : (v : ℤ) (before : List ℤ) (m : Machine) (long : Bool) 
     → ReadingEnsures v before before m (readingOutcome (reply .outcome) before) (machine (reply .state) (m .list) (m .tables))
 refused-reading v before m long w r same j i reply is =
     subst (λ (x : ReadingReply). ReadingEnsures v before before m (readingOutcome (x .outcome) before) (machine (x .state) (m .list) (m .tables))) (sym is)
-    (record { ensures = refused-call (reading v (length before)) m long w r refl refl same j i; places = refl; uncut = λ e. refl })
+    (record { ensures = refused-call (reading v (length before)) m long w r refl refl same j i; places = refl; uncut = λ e. refl; alone = refl })
 
 -- a start that check 1 refuses
 pub refused-start : (m : Machine) (reply : Reply) → machineLong m ≡ false → reply ≡ refusedWith TableTooShort m

@@ -110,6 +110,8 @@ pub record ReadingEnsuresAt (limit : ℕ) (v : ℤ) (before after : List ℤ) (m
   pub places : after ≡ placesAfter o before
   -- where nothing is cut, no table is touched
   pub uncut : any (edge (m .state .count + 1)) (queriesOf m) ≡ false → m′ .tables ≡ m .tables
+  -- no query joins or leaves
+  pub alone : m′ .state .registered ≡ m .state .registered
 
 -- with the limit of this form
 abbrev pub ReadingEnsures : ℤ → List ℤ → List ℤ → Machine → Outcome → Machine → Type 0

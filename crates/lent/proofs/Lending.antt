@@ -210,6 +210,7 @@ module _ (st st′ : State) (xs list : List Query) (t t′ : Tables) where
             (λ s rep. same-records s ((step s (reading v (length before))) .state .queries) l rep (reading-same s v (length before))));
         places = p .places;
         uncut = p .uncut;
+        alone = p .alone;
       })
 
   -- totals: nor was one

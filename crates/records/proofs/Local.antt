@@ -3,7 +3,8 @@
 --     local-out        the local at the list xs  ⊢  the whole share of the row xs, from the local's place
 --     local-in         the whole share of a row of 32 records  ⊢  the local at that list, which is then a list of its
 --     type
---     lends-local      the local at the list xs  ⊢ ⇛ ∃ γ. own (the `&κ mut [Query]` ((l, 0), γ, xs)) ∗ the lender's part
+--     lends-local      the local at the list xs  ⊢ ⇛ ∃ γ. own (the `&κ mut [Query]` ((l, 0), γ, xs)) ∗ the lender's
+--     part
 --     local-back       κ is dead ∗ the lender's part ∗ finally γ zs  ⊢ ⇛ the local at the list zs
 --     lends-local-shr, local-back-shr      the same as a `&[Query]`: the list is what it was
 -- Assumes `Given`.
