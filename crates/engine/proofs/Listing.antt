@@ -22,7 +22,7 @@ use Rattle.engine.specs.Contracts.{listDamaged}
 
 -- a list that is not written
 pub list-same : (l : List ℕ) → ListKept l l
-list-same l = record { length = refl; beyond = refl }
+list-same l = record { asLong = refl; beyond = refl }
 
 -- ---- check 1
 
@@ -45,13 +45,13 @@ long-is m t b e f = f ∙ ap (λ (x : Bool). leb listPlaces (length (m .list)) &
 pub still-long : (m : Machine) (st : State) (l : List ℕ) (t : Tables) → ListKept (m .list) l → TablesKept (m .tables) t → machineLong m ≡ true → machineLong (machine st l t) ≡ true
 unfolding machineLong
 still-long m st l t k w e =
-    ap₂ _&&_ (ap (leb listPlaces) (k .length) ∙ and-left (leb listPlaces (length (m .list))) (tablesLong (m .tables)) e) (kept-long (m .tables) t w (long-tables m e))
+    ap₂ _&&_ (ap (leb listPlaces) (k .asLong) ∙ and-left (leb listPlaces (length (m .list))) (tablesLong (m .tables)) e) (kept-long (m .tables) t w (long-tables m e))
 
 -- and after a start
 pub zeroed-long : (m : Machine) (st : State) (l : List ℕ) (t : Tables) → ListKept (m .list) l → t ≡ zeroedTables (m .tables) → machineLong m ≡ true → machineLong (machine st l t) ≡ true
 unfolding machineLong
 zeroed-long m st l t k z e =
-    ap₂ _&&_ (ap (leb listPlaces) (k .length) ∙ and-left (leb listPlaces (length (m .list))) (tablesLong (m .tables)) e) (ap tablesLong z ∙ tables-zeroed-long (m .tables))
+    ap₂ _&&_ (ap (leb listPlaces) (k .asLong) ∙ and-left (leb listPlaces (length (m .list))) (tablesLong (m .tables)) e) (ap tablesLong z ∙ tables-zeroed-long (m .tables))
 
 -- ---- check 2
 

@@ -36,7 +36,7 @@ kept-all : (w : List ℕ) → KeptBeyond stateNumbers w w
 kept-all w = record { asLong = refl; beyond = refl }
 
 list-all : (ns : List ℕ) → ListKept ns ns
-list-all ns = record { length = refl; beyond = refl }
+list-all ns = record { asLong = refl; beyond = refl }
 
 -- ---- the number of a refusal, as an outcome
 

@@ -222,7 +222,7 @@ laid-at k rs i h = placed-at (unplaced rs) (unplaced-long rs) (min k recordLimit
 pub laid-kept : (k m : ℕ) (rs qs : List Query) → ListKept (laid k rs) (laid m qs)
 laid-kept k m rs qs =
     record {
-      length = laid-length m qs ∙ sym (laid-length k rs);
+      asLong = laid-length m qs ∙ sym (laid-length k rs);
       beyond = none m qs ∙ sym (none k rs);
     }
   where

@@ -46,7 +46,7 @@ module _ (i : ℕ) (l : List ℕ) (c : i < recordLimit) (w : listPlaces ≤ leng
   without-kept : ListKept l (without i l)
   without-kept =
       record {
-        length = length-set (withRecord i unused l) (orderAt + i) 0 ∙ record-length i unused l;
+        asLong = length-set (withRecord i unused l) (orderAt + i) 0 ∙ record-length i unused l;
         beyond = drop-set-lt listPlaces (withRecord i unused l) (orderAt + i) 0 (omega arith) ∙ same-later orderAt listPlaces l (withRecord i unused l) (omega arith) (record-past i unused l c);
       }
 
@@ -75,7 +75,7 @@ clearing-start k l c =
 pub clearing-next : (k : ℕ) (l₀ : List ℕ) (i : ℕ) (l m : List ℕ) → listPlaces ≤ length l₀ → i < recordLimit → Clearing k l₀ i l → m ≡ withRecord i unused l
     → Clearing k l₀ (i + 1) (set m (orderAt + i) 0)
 clearing-next k l₀ i l m w c h e =
-    let long : listPlaces ≤ length l = omega (arith, h .kept .length) in
+    let long : listPlaces ≤ length l = omega (arith, h .kept .asLong) in
     let low : k ≤ i = h .first in
     subst (λ (n : List ℕ). Clearing k l₀ (i + 1) (set n (orderAt + i) 0)) (sym e)
     (record {
@@ -94,12 +94,12 @@ clearing-next k l₀ i l m w c h e =
 
 pub clearing-done : (k : ℕ) (l₀ : List ℕ) (i : ℕ) (l : List ℕ) → listPlaces ≤ length l₀ → recordLimit ≤ i → Clearing k l₀ i l → Cleared k l₀ l
 clearing-done k l₀ i l w c h =
-    let long : listPlaces ≤ length l = omega (arith, h .kept .length) in
+    let long : listPlaces ≤ length l = omega (arith, h .kept .asLong) in
     let few : k ≤ recordLimit = omega (arith, h .first, h .last) in
     let all : recordLimit ≡ i = omega (arith, h .last) in
     record {
       queries = used-same k l₀ l (h .used);
-      places = order-same k l₀ l few w (h .kept .length) (h .order);
+      places = order-same k l₀ l few w (h .kept .asLong) (h .order);
       tidy = at-tidy k l few long (record { records = λ j a b. h .records j a (omega arith); order = λ j a b. h .places j a (omega arith) });
       kept = h .kept;
     }

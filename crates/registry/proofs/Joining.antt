@@ -111,7 +111,7 @@ module _ (k : ℕ) (q : Query) (l : List ℕ) (c : k < recordLimit) (w : listPla
         places = all-places h;
         inOrder = all-order;
         tidy = all-tidy;
-        kept = record { length = appended-length; beyond = same-later (orderAt + suc k) listPlaces l (appended k q l) (omega arith) appended-past };
+        kept = record { asLong = appended-length; beyond = same-later (orderAt + suc k) listPlaces l (appended k q l) (omega arith) appended-past };
       }
 
 -- a place that is put where its number's rank says is inserted

@@ -201,7 +201,7 @@ at-tidy k l c w t =
 -- ---- the numbers beyond
 
 pub kept-same : (l : List ℕ) → ListKept l l
-kept-same l = record { length = refl; beyond = refl }
+kept-same l = record { asLong = refl; beyond = refl }
 
 pub kept-then : {l l′ l″ : List ℕ} → ListKept l l′ → ListKept l′ l″ → ListKept l l″
-kept-then h k = record { length = k .length ∙ h .length; beyond = k .beyond ∙ h .beyond }
+kept-then h k = record { asLong = k .asLong ∙ h .asLong; beyond = k .beyond ∙ h .beyond }

@@ -108,7 +108,7 @@ pub record Tidy (k : ℕ) (l : List ℕ) : Type 0 where
 
 -- no number beyond the list's is written
 pub record ListKept (l l′ : List ℕ) : Type 0 where
-  pub length : length l′ ≡ length l
+  pub asLong : length l′ ≡ length l
   pub beyond : drop listPlaces l′ ≡ drop listPlaces l
 
 -- ---- the place of a query

@@ -94,7 +94,7 @@ feed-chunk-spec =
     (λ c κs. tt)
     (λ c κs. tt)
     (λ c. search needs)
-    (λ c. (held-then (feedOf c .before .before .before .before .before .before .before .before .before .before .before .loop .inv .0) (feedOf c .feed .ensures .taken .streams .kept)) .list .length)
+    (λ c. (held-then (feedOf c .before .before .before .before .before .before .before .before .before .before .before .loop .inv .0) (feedOf c .feed .ensures .taken .streams .kept)) .list .asLong)
     (λ c. (held-then (feedOf c .before .before .before .before .before .before .before .before .before .before .before .loop .inv .0) (feedOf c .feed .ensures .taken .streams .kept)) .line .asLong)
     (λ c. (held-then (feedOf c .before .before .before .before .before .before .before .before .before .before .before .loop .inv .0) (feedOf c .feed .ensures .taken .streams .kept)) .tables .starts .asLong)
     (λ c. (held-then (feedOf c .before .before .before .before .before .before .before .before .before .before .before .loop .inv .0) (feedOf c .feed .ensures .taken .streams .kept)) .tables .sums .asLong)
@@ -106,7 +106,7 @@ feed-chunk-spec =
     returns
     loop-less
     loop-again
-    (λ c. c .before .loop .inv .0 .list .length)
+    (λ c. c .before .loop .inv .0 .list .asLong)
     (λ c. c .before .loop .inv .0 .line .asLong)
     (λ c. c .before .loop .inv .0 .tables .starts .asLong)
     (λ c. c .before .loop .inv .0 .tables .sums .asLong)

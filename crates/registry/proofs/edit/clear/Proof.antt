@@ -29,7 +29,7 @@ loop-again c =
     (put .put-query .ensures ∙ ap (λ (q : Query). withRecord (t .loop .i) q (t .loop .list)) (emptied .unused .ensures))
 
 same-length : tie.Need-same-length Inv-loop μ-loop
-same-length c = c .before .loop .inv .kept .length
+same-length c = c .before .loop .inv .kept .asLong
 
 returns : tie.Need-returns Inv-loop μ-loop
 returns c =

@@ -36,7 +36,7 @@ loop-again c =
     (c .if1 .came)
 
 same-length : tie.Need-same-length Inv-loop μ-loop
-same-length c = let done = c .before .before in done .clear .ensures .kept .length ∙ done .before .before .before .loop .inv .kept .length
+same-length c = let done = c .before .before in done .clear .ensures .kept .asLong ∙ done .before .before .before .loop .inv .kept .asLong
 
 returns : tie.Need-returns Inv-loop μ-loop
 returns c =

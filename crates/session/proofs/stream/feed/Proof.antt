@@ -93,7 +93,7 @@ feed-spec =
     rest-of-line-requires
     loop-less
     loop-again
-    (λ c. c .before .before .loop .inv .streams .kept .list .length)
+    (λ c. c .before .before .loop .inv .streams .kept .list .asLong)
     (λ c. c .before .before .loop .inv .streams .kept .line .asLong)
     (λ c. c .before .before .loop .inv .streams .kept .tables .starts .asLong)
     (λ c. c .before .before .loop .inv .streams .kept .tables .sums .asLong)
