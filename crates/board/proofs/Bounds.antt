@@ -12,14 +12,14 @@ use Rattle.window.proofs.Standing.{closing_cost, standing_nonempty}
 use Rattle.board.specs.declared.aggregate.Aggregate.{Aggregate}
 use Rattle.board.specs.Aggregates.{maximum_of, minimum_of, entry_by, entries_by, Rising, Before}
 use Rattle.board.specs.Ledgers.{Ledger, nothing_closed, close_with, closing_comparisons, Amortized, Consistent}
-use Rattle.board.proofs.Lists.{entries_from, entries_snoc, rising_snoc, rising_sorted}
+use Rattle.board.proofs.Lists.{entries_from_lem, entries_snoc, rising_snoc, rising_sorted}
 
 module _ (below : ℤ → ℤ → Bool) (f : Aggregate → ℤ) (m h : ℕ) (a : Aggregate) where
   closed-later : (cs : List Aggregate) → 1 ≤ length cs → Rising cs → Amortized below f m cs → Amortized below f (m + closing_comparisons below f h a cs) (cs ++ (a ∷ []))
   closed-later cs l r k =
       record {
         bound =
-            rw (entries_snoc f cs a, length-append cs (a ∷ []), ← entries_from f h cs)
+            rw (entries_snoc f cs a, length-append cs (a ∷ []), ← entries_from_lem f h cs)
             (omega (arith, k.bound, closing_cost below h (entries_by f cs) (entry_by f a) (rising_sorted f cs r)));
         some_stand = rw (entries_snoc f cs a) (omega (arith, standing_nonempty below (entries_by f cs) (entry_by f a)));
       }

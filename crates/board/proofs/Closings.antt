@@ -17,7 +17,7 @@ use Rattle.deque.specs.Extremes.{trimmed, trim_comparisons, closed_with}
 use Rattle.deque.proofs.Trimming.{trimmed_le, trimmed-standing, trim_comparisons_lem}
 use Rattle.board.specs.declared.aggregate.Aggregate.{Aggregate}
 use Rattle.board.specs.Aggregates.{closed_from, entry_by, entries_by, Rising}
-use Rattle.board.proofs.Lists.{from_from, entries_from, entries_snoc, rising_sorted}
+use Rattle.board.proofs.Lists.{from_from, entries_from_lem, entries_snoc, rising_sorted}
 
 -- where a list has at most n elements, its newest n are all of it
 newest-few : {A : Type 0} (n : ℕ) (xs : List A) → length xs ≤ n → newest n xs ≡ xs
@@ -38,7 +38,7 @@ closed-live h cs a =
 -- held are qs where cs are closed, seen from h on
 module _ {A : Type 0} (f : Aggregate → A) (h : ℕ) (cs qs : List Aggregate) (rising : Rising qs) (same : closed_from h qs ≡ closed_from h cs) where
   held_from : entries_from h (entries_by f qs) ≡ entries_by f (closed_from h cs)
-  held_from = entries_from f h qs ∙ ap (entries_by f) same
+  held_from = entries_from_lem f h qs ∙ ap (entries_by f) same
 
   -- eviction leaves those that are live
   pub held-evicted : evicted h (entries_by f qs) ≡ entries_by f (closed_from h cs)

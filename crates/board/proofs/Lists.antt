@@ -84,8 +84,8 @@ before_from h cs s b = each_filter (λ (x : Aggregate). x.start < s) (λ (x : Ag
 
 module _ {A : Type 0} (f : Aggregate → A) where
   -- the entries from a place on are those of the aggregates from there on
-  pub entries_from : (h : ℕ) (cs : List Aggregate) → entries_from h (entries_by f cs) ≡ entries_by f (closed_from h cs)
-  entries_from h cs = filter_map (entry_by f) (λ (e : Entry A). live h e.start) cs
+  pub entries_from_lem : (h : ℕ) (cs : List Aggregate) → entries_from h (entries_by f cs) ≡ entries_by f (closed_from h cs)
+  entries_from_lem h cs = filter_map (entry_by f) (λ (e : Entry A). live h e.start) cs
 
   pub entries_snoc : (cs : List Aggregate) (a : Aggregate) → entries_by f (cs ++ (a ∷ [])) ≡ entries_by f cs ++ (entry_by f a ∷ [])
   entries_snoc [] a = refl

@@ -10,7 +10,7 @@ use deque::compare::Extreme;
 use window::count::Count;
 
 // The aggregates of a stretch that holds a reading, and its start.
-#[derive(Drop)]
+#[derive(Clone, Copy)]
 pub struct Aggregate {
     pub start: Count,
     pub sum: i64,

@@ -14,7 +14,7 @@ use deque::extremes::Deque;
 use deque::sums::Sums;
 use window::count::{Count, wide};
 
-#[derive(Drop)]
+#[derive(Clone, Copy)]
 pub struct Board {
     // P: the count of what is closed.
     pub closed: Count,

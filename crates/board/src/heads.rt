@@ -3,7 +3,7 @@ ghost use Rattle.std.specs.Prelude.{◌≡◌};
 ghost use Rattle.board.specs.Boards.{head_value};
 
 // The value of each kind over all that is closed and starts at the horizon or later; 0 where nothing is.
-#[derive(Drop)]
+#[derive(Clone, Copy)]
 pub struct Heads {
     pub sum: i64,
     pub maximum: i32,

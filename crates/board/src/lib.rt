@@ -1,3 +1,5 @@
+#![tactic(auto)]
+
 // The board: what is closed, on six lent tables, as a list of aggregates. It knows neither readings nor queries.
 pub mod aggregate; // the aggregates of a stretch of readings
 pub mod tables; // the lent tables: their lengths, and zeroing them

@@ -1,3 +1,5 @@
+#![tactic(auto)]
+
 // A demonstration of the five calls: it plays the starred cases and the sample session of document 01 on a query list
 // of 32 records, and prints what each call returns.
 mod lending;

@@ -9,7 +9,7 @@ use window::query::Query;
 use window::refusal::{Refusal, Verdict};
 
 // What a call returned.
-#[derive(Drop)]
+#[derive(Clone, Copy)]
 pub enum Returned {
     // No call was made.
     Nothing,
@@ -20,7 +20,7 @@ pub enum Returned {
 }
 
 // The same, with the state and the records after it.
-#[derive(Drop)]
+#[derive(Clone, Copy)]
 pub struct Now {
     pub returned: Returned,
     pub state: State,

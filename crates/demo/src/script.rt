@@ -2,7 +2,7 @@
 // calls.
 
 // A call of a list, with what it is given.
-#[derive(Drop)]
+#[derive(Clone, Copy)]
 pub enum Call {
     Start,
     Register(u32, u32, u32, u32),

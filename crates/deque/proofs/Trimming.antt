@@ -2,7 +2,7 @@
 -- list all go that are at most the new one and no other, and what that costs.
 -- Assumes nothing.
 use mathlib.Core.Path.{◌≡◌, refl, sym, ◌∙◌}
-use mathlib.Core.Bool.{Bool, true, false, cond, and_true, and-false}
+use mathlib.Core.Bool.{Bool, true, false, cond, and-true, and-false}
 use mathlib.Core.List.{List, [], ◌∷◌, ◌++◌}
 use Prim.Native.Nat.{◌≤◌, suc, zero-le, suc-le-suc}
 use native.Mathlib.Omega.{arith}
@@ -28,7 +28,7 @@ module _ {A : Type 0} (below : A → A → Bool) where
     pub trimmed_snoc_drop : (xs : List (Entry A)) (x : Entry A) → at_most below x y ≡ true → trimmed below y (xs ++ (x ∷ [])) ≡ trimmed below y xs
     unfolding trimmed
     trimmed_snoc_drop [] x e = rw e
-    trimmed_snoc_drop (z ∷ zs) x e = rw (all_snoc goes zs x, e, and_true (all goes zs), trimmed_snoc_drop zs x e)
+    trimmed_snoc_drop (z ∷ zs) x e = rw (all_snoc goes zs x, e, and-true (all goes zs), trimmed_snoc_drop zs x e)
 
     -- an entry at the end that is greater than y stays, and so does all before it
     pub trimmed_snoc_keep : (xs : List (Entry A)) (x : Entry A) → at_most below x y ≡ false → trimmed below y (xs ++ (x ∷ [])) ≡ xs ++ (x ∷ [])

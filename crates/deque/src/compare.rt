@@ -4,14 +4,14 @@ ghost use Rattle.std.specs.Prelude.{◌≡◌, ◌+◌, ◌<◌, ◌^◌};
 ghost use Rattle.deque.specs.Extremes.{order_of};
 
 // Which extreme is kept: it fixes the order.
-#[derive(Drop)]
+#[derive(Clone, Copy)]
 pub enum Extreme {
     Maximum,
     Minimum,
 }
 
 // What a comparison found, and the total with this comparison counted.
-#[derive(Drop)]
+#[derive(Clone, Copy)]
 pub(crate) struct Compared {
     pub verdict: bool,
     pub total: u64,

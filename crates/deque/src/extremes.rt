@@ -11,7 +11,7 @@ use crate::ring::Ring;
 use window::count::Count;
 
 // The ring of the entries, and the total of the comparisons made (document 01: M or N).
-#[derive(Drop)]
+#[derive(Clone, Copy)]
 pub struct Deque {
     pub ring: Ring,
     pub comparisons: u64,

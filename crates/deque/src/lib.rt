@@ -1,3 +1,5 @@
+#![tactic(auto)]
+
 // Rings over lent tables: the closed partials with their sums, and the monotonic deques of maxima and minima. Every
 // function equals a function of the list of entries that the ring holds.
 pub mod ring; // a ring over the first 4,096 places: moving on, evicting, searching

@@ -9,14 +9,14 @@ use window::count::{Count, size};
 pub const CAPACITY: usize = 4_096;
 
 // The entries of a ring: `len` of them, the oldest at place `head`.
-#[derive(Drop)]
+#[derive(Clone, Copy)]
 pub struct Ring {
     pub head: usize,
     pub len: usize,
 }
 
 // A ring with one entry more, and the place of that entry.
-#[derive(Drop)]
+#[derive(Clone, Copy)]
 pub(crate) struct Pushed {
     pub ring: Ring,
     pub place: usize,

@@ -20,7 +20,7 @@ pub const LAP_LIMIT: u64 = 576_460_752_303_423_488;
 
 // The closed partials: their ring, and the sums of two laps of it. A lap is a run of pushes from place 0 to the last
 // one.
-#[derive(Drop)]
+#[derive(Clone, Copy)]
 pub struct Sums {
     pub ring: Ring,
     // The sum of the partials since place 0.

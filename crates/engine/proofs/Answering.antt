@@ -21,7 +21,7 @@ use Rattle.window.specs.Model.{count, window_value, window, answer, answers}
 use Rattle.window.specs.Invariant.{Invariant, FromPartials}
 use Rattle.window.proofs.Orders.{le_z_order, ge_z-order}
 use Rattle.window.proofs.Queries.{horizon_le}
-use Rattle.window.proofs.Tiling.{entries_from}
+use Rattle.window.proofs.Tiling.{entries_from_lem}
 use Rattle.window.proofs.Windows.{due_from_partials}
 use Rattle.board.specs.declared.aggregate.Aggregate.{Aggregate}
 use Rattle.board.specs.Tables.{Tables}
@@ -40,7 +40,7 @@ module _ (s : model.State) (q : Query) (given : FromPartials s q) where
       let w : ℕ = window_start (count s) q in
       ap (map f) (from_closed s.readings w s.closed)
       ∙ values-closed s.readings f g same (partials_from w s.closed)
-      ∙ ap (map value_of) (sym (entries_from g s.readings w s.closed))
+      ∙ ap (map value_of) (sym (entries_from_lem g s.readings w s.closed))
 
   -- the value of the window, whatever the kind
   value_is : value_in (ledger_of s).closed (count s) q ≡ window_value q.kind (window s.readings q)

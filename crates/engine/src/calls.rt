@@ -15,28 +15,28 @@ use window::query::Query;
 use window::refusal::{Refusal, Verdict};
 
 // What a start, a registration or a withdrawal comes to, with the state handed back: equal where it is refused.
-#[derive(Drop)]
+#[derive(Clone, Copy)]
 pub struct Reply {
     pub verdict: Verdict,
     pub state: State,
 }
 
 // What a reading comes to: how many answers were written, or a refusal.
-#[derive(Drop)]
+#[derive(Clone, Copy)]
 pub enum Answered {
     Answers(usize),
     Refused(Refusal),
 }
 
 // The same, with the state handed back: equal where it is refused.
-#[derive(Drop)]
+#[derive(Clone, Copy)]
 pub struct ReadingReply {
     pub outcome: Answered,
     pub state: State,
 }
 
 // What a call of totals comes to: n, P, M and N, or a refusal.
-#[derive(Drop)]
+#[derive(Clone, Copy)]
 pub enum TotalsReply {
     Totals(Count, Count, u64, u64),
     Refused(Refusal),

@@ -1,3 +1,5 @@
+#![tactic(auto)]
+
 // The engine: its state by value, the tables and the answer places lent by the caller.
 pub mod partial; // the open partial
 pub mod state; // the state, and what is judged on it

@@ -12,7 +12,7 @@ use window::query::LENGTH_LIMIT;
 pub const READING_SIZE: u64 = 2_147_483_648;
 
 // Document 01: the open partial, or none.
-#[derive(Drop)]
+#[derive(Clone, Copy)]
 pub enum Open {
     // None: no query is registered.
     Nothing,

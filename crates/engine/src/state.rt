@@ -9,7 +9,7 @@ use board::board::Board;
 use window::count::Count;
 
 // What the engine knows between two calls, beside the query list and the lent tables.
-#[derive(Drop)]
+#[derive(Clone, Copy)]
 pub struct State {
     // Document 01's n: the count of accepted readings since the start.
     pub count: Count,

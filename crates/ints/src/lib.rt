@@ -1,3 +1,5 @@
+#![tactic(auto)]
+
 // Signed arithmetic: the operations on sums. The laws of signed numbers, for every crate above, stand in proofs/.
 ghost use Rattle.std.specs.Prelude.{◌≡◌, true, ◌<◌, ◌^◌, ◌+ℤ◌, nat_abs};
 ghost use Rattle.std.specs.Int.{w64};

@@ -5,7 +5,7 @@ use engine::calls::Reply;
 use window::query::Query;
 
 // What the caller is told, and what is to be done to the lent list: with how many records, and with which query.
-#[derive(Drop)]
+#[derive(Clone, Copy)]
 pub struct OnCopy {
     pub reply: Reply,
     pub count: usize,

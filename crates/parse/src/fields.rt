@@ -3,28 +3,28 @@ ghost use Rattle.std.specs.Prelude.{◌≡◌, ◌+◌, ◌≤◌, length, drop}
 ghost use Rattle.parse.specs.Fields.{until, field_at, after_at, bytes_of, InLine, is_last};
 
 // A line's bytes, and a position in it: the start of a field, or one beyond the line, after the last field.
-#[derive(Drop)]
+#[derive(Clone, Copy)]
 pub struct Fields<'a> {
     pub line: &'a [u8],
     pub at: usize,
 }
 
 // A field of the line: its bytes are those from the first number up to the second. After the last field there is none.
-#[derive(Drop)]
+#[derive(Clone, Copy)]
 pub enum Field {
     Text(usize, usize),
     End,
 }
 
 // What the fields of a line yield: one field, and the fields after it.
-#[derive(Drop)]
+#[derive(Clone, Copy)]
 pub struct Yielded<'a> {
     pub field: Field,
     pub rest: Fields<'a>,
 }
 
 // The same without the line: one field, and the position after it.
-#[derive(Drop)]
+#[derive(Clone, Copy)]
 pub struct Step {
     pub field: Field,
     pub after: usize,

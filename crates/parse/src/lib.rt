@@ -1,3 +1,5 @@
+#![tactic(auto)]
+
 // Session lines, read (document 01, "Session lines"): from the bytes of a line to what it asks, or the refusal that it
 // gets.
 pub mod fields; // a line's fields, one after the other

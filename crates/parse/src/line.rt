@@ -12,7 +12,7 @@ use window::refusal::Refusal;
 pub const LINE_LENGTH: usize = 64;
 
 // What a line asks, or the refusal that it gets.
-#[derive(Drop)]
+#[derive(Clone, Copy)]
 pub enum Line {
     Register {
         number: u32,
@@ -30,7 +30,7 @@ pub enum Line {
 }
 
 // What a first field names: R, D, V, or nothing that is known.
-#[derive(Drop)]
+#[derive(Clone, Copy)]
 pub enum Name {
     Register,
     Withdraw,

@@ -4,7 +4,7 @@ ghost use Rattle.parse.specs.Numbers.{digit, starts, value_or, number_of, signed
 
 // What a field is as an unsigned number: no number as written (refusal 14), a number outside its width (15), or a
 // number.
-#[derive(Drop)]
+#[derive(Clone, Copy)]
 pub enum Number {
     Malformed,
     Wide,
@@ -12,7 +12,7 @@ pub enum Number {
 }
 
 // The same as a signed number.
-#[derive(Drop)]
+#[derive(Clone, Copy)]
 pub enum Signed {
     Malformed,
     Wide,

@@ -1,3 +1,5 @@
+#![tactic(auto)]
+
 // The session program (document 01, "Session lines"): it reads standard input, calls the session, and writes standard
 // output.
 ghost use Rattle.std.specs.Prelude.{◌≡◌, true, ◌≤◌, length};
@@ -14,7 +16,7 @@ use session::stream::Session;
 use window::count::Count;
 
 // How a run goes on, or ended.
-#[derive(Drop)]
+#[derive(Clone, Copy)]
 enum Progress {
     Onward,
     InputEnded,
@@ -24,7 +26,7 @@ enum Progress {
 }
 
 // After a chunk: the session, how the run goes on, and what the last write said.
-#[derive(Drop)]
+#[derive(Clone, Copy)]
 struct ChunkEnd {
     session: Session,
     progress: Progress,
@@ -32,7 +34,7 @@ struct ChunkEnd {
 }
 
 // After all reads: the same, with what the last of them returned.
-#[derive(Drop)]
+#[derive(Clone, Copy)]
 struct ReadsEnd {
     session: Session,
     progress: Progress,
@@ -41,7 +43,7 @@ struct ReadsEnd {
 }
 
 // How the run ended, with what the last read returned and the last write said.
-#[derive(Drop)]
+#[derive(Clone, Copy)]
 struct RunEnd {
     progress: Progress,
     got: isize,

@@ -11,7 +11,7 @@ use window::query::Query;
 
 // How many records are used after a change of the list, the list after it, and how many of its records are to be put
 // back.
-#[derive(Drop)]
+#[derive(Clone, Copy)]
 pub struct Edited {
     pub count: usize,
     pub list: [Query; 32],

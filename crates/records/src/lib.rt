@@ -1,3 +1,5 @@
+#![tactic(auto)]
+
 // The query list as the caller lends it: a slice of records, 32 or more.
 pub mod copy; // the first 32 records copied to an array, and put back
 pub mod edited; // find, append and withdraw on the array

@@ -8,7 +8,7 @@ use window::query::{KIND_LIMIT, LENGTH_LIMIT, NUMBER_LIMIT, Query};
 // all bits). The limit of kinds, ranges and slides is a power of 2: so their bits tell whether one of them is outside 1
 // to it, and those of the numbers whether one is outside 1 to 65,536. With all four the compiler takes the fields of a
 // record at once.
-#[derive(Drop)]
+#[derive(Clone, Copy)]
 pub(crate) struct Bits {
     pub number: u32,
     pub kind: u32,

@@ -6,7 +6,7 @@ ghost use Rattle.registry.specs.Records.{record_limit, list_places, used, place_
 use crate::list::QUERY_NUMBERS;
 
 // Where a query stands in a list.
-#[derive(Drop)]
+#[derive(Clone, Copy)]
 pub enum Found {
     // At this place, from 0.
     At(usize),

@@ -1,3 +1,5 @@
+#![tactic(auto)]
+
 // The list of registered queries, lent as numbers, and what is judged on it: the checks of the calls, where windows
 // have an edge, which queries are due.
 pub mod list; // the list: where its records stand

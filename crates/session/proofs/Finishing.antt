@@ -67,9 +67,9 @@ module _ (to size at room lines : ℕ) where
   by_number h k =
       sym (ap (λ (b : Bool). b && (leb (at + line_room) room && ltb lines line_limit)) (lt-ltb to size h) ∙ ap (λ (b : Bool). b && ltb lines line_limit) (le-leb (at + line_room) room k))
 
-  pub goes_on : goes_on to size at room lines ≡ true → (to < size) × ((at + line_room ≤ room) × (lines < line_limit))
+  pub goes_on_lem : goes_on to size at room lines ≡ true → (to < size) × ((at + line_room ≤ room) × (lines < line_limit))
   unfolding goes_on
-  goes_on e =
+  goes_on_lem e =
       let more : (leb (at + line_room) room && ltb lines line_limit) ≡ true = and_right (ltb to size) (leb (at + line_room) room && ltb lines line_limit) e in
       (ltb-true to size (and_left (ltb to size) (leb (at + line_room) room && ltb lines line_limit) e), (leb-true (at + line_room) room (and_left (leb (at + line_room) room) (ltb lines line_limit) more), ltb-true lines line_limit (and_right (leb (at + line_room) room) (ltb lines line_limit) more)))
 
@@ -98,9 +98,9 @@ module _ (s : Session) where
       let no : leb s.lines line_limit ≡ false = lt-leb s.lines line_limit many in
       no ∙ sym (ap (λ (x : Bool). x && ltb 0 s.kept) no)
 
-  pub has_last : has_last s ≡ true → (s.lines ≤ line_limit) × (ltb 0 s.kept ≡ true)
+  pub has_last_lem : has_last s ≡ true → (s.lines ≤ line_limit) × (ltb 0 s.kept ≡ true)
   unfolding has_last
-  has_last e = (leb-true s.lines line_limit (and_left (leb s.lines line_limit) (ltb 0 s.kept) e), and_right (leb s.lines line_limit) (ltb 0 s.kept) e)
+  has_last_lem e = (leb-true s.lines line_limit (and_left (leb s.lines line_limit) (ltb 0 s.kept) e), and_right (leb s.lines line_limit) (ltb 0 s.kept) e)
 
 -- what the last line leaves: it ends, if it has a byte
 pub record LastLine (h : Held) (old : List ℕ) (m : Machine) (new : List ℕ) (next : ℕ) : Type 0 where
@@ -131,7 +131,7 @@ module _ (s : Session) (list line : List ℕ) (t : Tables) (old : List ℕ) wher
   one_line {asked} {s'} {m} {new} {next} last asks p =
       record {
         line = λ r sh few e. ends r sh;
-        none = λ r sh e. absurd (false≢true (sym e ∙ sym (begun_kept s.kept line r.line sh.room sh.line) ∙ (has_last s last).1));
+        none = λ r sh e. absurd (false≢true (sym e ∙ sym (begun_kept s.kept line r.line sh.room sh.line) ∙ (has_last_lem s last).1));
         room = omega (arith, p.room);
         puts = p.puts;
         list_kept = p.list_kept;

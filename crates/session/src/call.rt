@@ -12,7 +12,7 @@ use window::count::Count;
 use window::refusal::{Refusal, Verdict};
 
 // What the call came to, with the state handed back: equal where it is refused.
-#[derive(Drop)]
+#[derive(Clone, Copy)]
 pub struct Called {
     pub outcome: Answered,
     pub state: State,

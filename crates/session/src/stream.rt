@@ -32,7 +32,7 @@ pub const LINE_LIMIT: u64 = 18_446_744_073_709_551_614;
 
 // What is known between two bytes of the input, beside what is lent: the query list, the bytes of the current line and
 // the tables.
-#[derive(Drop)]
+#[derive(Clone, Copy)]
 pub struct Session {
     // The engine's state.
     pub state: State,
@@ -44,7 +44,7 @@ pub struct Session {
 
 // What was taken of a chunk: the session after it, the place in the chunk up to which it was taken, and the place in
 // the output up to which it printed.
-#[derive(Drop)]
+#[derive(Clone, Copy)]
 pub struct Taken {
     pub session: Session,
     pub to: usize,
@@ -52,7 +52,7 @@ pub struct Taken {
 }
 
 // The session after a line, and the place in the output up to which it printed.
-#[derive(Drop)]
+#[derive(Clone, Copy)]
 pub struct Ended {
     pub session: Session,
     pub at: usize,

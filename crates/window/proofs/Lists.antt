@@ -3,7 +3,7 @@
 use mathlib.Core.Path.{◌≡◌, refl, ap}
 use Prim.Native.Nat.{ℕ, zero, suc, ◌+◌, ◌≤◌, ◌<◌, zero-le, suc-le-suc}
 use native.Mathlib.Omega.{arith}
-use mathlib.Core.Bool.{Bool, true, false, not, ◌&&◌, ◌||◌, cond, and_true}
+use mathlib.Core.Bool.{Bool, true, false, not, ◌&&◌, ◌||◌, cond, and-true}
 use mathlib.Core.List.{List, [], ◌∷◌, ◌++◌, map}
 use lib.Dec.{leb}
 use lib.ListN.{length, take, drop}
@@ -86,7 +86,7 @@ module _ {A : Type 0} where
   each_all p (x ∷ xs) h = rw h.0 (each_all p xs h.1)
 
   pub all_snoc : (p : A → Bool) (xs : List A) (x : A) → all p (xs ++ (x ∷ [])) ≡ (all p xs && p x)
-  all_snoc p [] x = and_true (p x)
+  all_snoc p [] x = and-true (p x)
   all_snoc p (y ∷ ys) x = rw (all_snoc p ys x) (go (p y))
     where
       go : (b : Bool) → (b && (all p ys && p x)) ≡ ((b && all p ys) && p x)

@@ -2,7 +2,7 @@
 -- the front changes nothing else, that the first is the greatest of all (W4), and what a closing costs.
 -- Assumes nothing.
 use mathlib.Core.Path.{◌≡◌, refl, sym, ap, ◌∙◌}
-use mathlib.Core.Bool.{Bool, true, false, not, ◌&&◌, ◌||◌, cond, and_true}
+use mathlib.Core.Bool.{Bool, true, false, not, ◌&&◌, ◌||◌, cond, and-true}
 use mathlib.Core.List.{List, [], ◌∷◌, ◌++◌, map}
 use Prim.Native.Nat.{ℕ, suc, ◌+◌, ◌≤◌, zero-le, suc-le-suc}
 use native.Mathlib.Omega.{arith}
@@ -131,7 +131,7 @@ module _ {A : Type 0} (below : A → A → Bool) where
     -- x exceeds all exactly where it exceeds the greatest
     all-exceeds : (x y : Entry A) (ys : List (Entry A)) → all (exceeds below x) (y ∷ ys) ≡ not (below x.value (greatest (y ∷ ys)))
     unfolding greatest
-    all-exceeds x y [] = and_true (exceeds below x y)
+    all-exceeds x y [] = and-true (exceeds below x y)
     all-exceeds x y (z ∷ zs) =
         rw (all-exceeds x z zs, below-greater below order x.value y.value (greatest (z ∷ zs)))
         (go (below x.value y.value) (below x.value (greatest (z ∷ zs))))

@@ -68,8 +68,8 @@ from_snoc m ps p l = filter-append (λ (q : Partial). live m q.start) ps (p ∷ 
 
 module _ {A B : Type 0} (f : List A → B) (rs : List A) where
   -- the entries from a place on are those of the partials from there on
-  pub entries_from : (m : ℕ) (ps : List Partial) → entries_from m (entries f rs ps) ≡ entries f rs (partials_from m ps)
-  entries_from m ps = filter_map (entry f rs) (λ (e : Entry B). live m e.start) ps
+  pub entries_from_lem : (m : ℕ) (ps : List Partial) → entries_from m (entries f rs ps) ≡ entries f rs (partials_from m ps)
+  entries_from_lem m ps = filter_map (entry f rs) (λ (e : Entry B). live m e.start) ps
 
 -- ---- stretches of readings
 

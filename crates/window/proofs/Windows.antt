@@ -23,7 +23,7 @@ use Rattle.window.specs.Model.{State, count, reached}
 use Rattle.window.specs.Invariant.{Ordered, Tiles, Tracked, Shape, Invariant, FromPartials, DueFromPartials}
 use Rattle.window.proofs.Orders.{greater_assoc}
 use Rattle.window.proofs.Queries.{due-marks, window-marks, window_nonempty, horizon_far}
-use Rattle.window.proofs.Tiling.{ordered_le, ordered_weaken, tiles_le, entries_from, aggregate_tiles}
+use Rattle.window.proofs.Tiling.{ordered_le, ordered_weaken, tiles_le, entries_from_lem, aggregate_tiles}
 use Rattle.window.proofs.Tracking.{shape-ordered}
 use Rattle.window.proofs.Preserved.{reached-invariant}
 
@@ -46,7 +46,7 @@ module _ (rs : List ℤ) (m : ℕ) (ps : List Partial) (c : ℕ) (l : m < c) (k 
   -- its aggregate is that of the partials from there on
   stretch_aggregate : (op : ℤ → ℤ → ℤ) (e : ℤ) → ((x y z : ℤ) → op (op x y) z ≡ op x (op y z))
       → aggregate op e (between rs m c) ≡ aggregate op e (map value_of (entries_from m (entries (aggregate op e) rs ps)))
-  stretch_aggregate op e assoc = rw (entries_from (aggregate op e) rs m ps) (go (partials_from m ps) t)
+  stretch_aggregate op e assoc = rw (entries_from_lem (aggregate op e) rs m ps) (go (partials_from m ps) t)
     where
       go : (qs : List Partial) → Tiles m qs c → aggregate op e (between rs m c) ≡ aggregate op e (map value_of (entries (aggregate op e) rs qs))
       go [] h = absurd (lt_irrefl c (rw h at l))

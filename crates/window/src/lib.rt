@@ -1,3 +1,5 @@
+#![tactic(auto)]
+
 // What a window means: the leaf functions on numbers, each proved equal to its definition in specs/. The reference
 // model, the starred cases and the laws of windows stand in specs/ and proofs/ and have no code.
 pub mod count; // a count of readings, and its casts

@@ -11,7 +11,7 @@ pub const KIND_LIMIT: u32 = 4;
 
 pub const LENGTH_LIMIT: u32 = 4_096;
 
-#[derive(Drop)]
+#[derive(Clone, Copy)]
 pub struct Query {
     // Chosen by the caller, 1 to 65,535.
     pub number: u32,
@@ -27,6 +27,7 @@ pub struct Query {
 
 impl Query {
     // How far m is from where the slides are counted. Due and edge depend on m through it, and on m > g.
+    #[tactic(auto, unfolding(crate::specs::Queries::phase))]
     fn phase(self, m: Count) -> Count
         requires { self.origin ≤ m }
         ensures { result ≡ phase m self }

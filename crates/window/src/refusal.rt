@@ -6,7 +6,7 @@ ghost use Rattle.window.specs.Refusals.{refusal_number, first_refusal, name_chec
 use crate::query::{KIND_LIMIT, LENGTH_LIMIT, NUMBER_LIMIT};
 
 // In the order of the document's table: `number` gives the document's number of each.
-#[derive(Drop)]
+#[derive(Clone, Copy)]
 pub enum Refusal {
     TableTooShort,
     Damaged,
@@ -26,7 +26,7 @@ pub enum Refusal {
 }
 
 // What a run of checks comes to: none applies, or the first that does.
-#[derive(Drop)]
+#[derive(Clone, Copy)]
 pub enum Verdict {
     Passed,
     Refused(Refusal),
@@ -67,6 +67,7 @@ fn within(low: u32, high: u32, x: u32) -> bool
 }
 
 // Checks 3 and 4, in this order: a registration's number and kind are within their limits.
+#[tactic(auto, unfolding(crate::specs::Refusals::name_checks))]
 pub fn check_name(number: u32, kind: u32) -> Verdict
     ensures { result ≡ first_refusal (name_checks number kind) }
 {
@@ -80,6 +81,7 @@ pub fn check_name(number: u32, kind: u32) -> Verdict
 }
 
 // Checks 5 and 6, in this order: a registration's range and slide are within their limits.
+#[tactic(auto, unfolding(crate::specs::Refusals::length_checks))]
 pub fn check_lengths(range: u32, slide: u32) -> Verdict
     ensures { result ≡ first_refusal (length_checks range slide) }
 {
@@ -93,6 +95,7 @@ pub fn check_lengths(range: u32, slide: u32) -> Verdict
 }
 
 // Checks 3 to 6, in this order.
+#[tactic(auto, unfolding(crate::specs::Refusals::field_checks))]
 pub fn check_fields(number: u32, kind: u32, range: u32, slide: u32) -> Verdict
     ensures { result ≡ first_refusal (field_checks number kind range slide) }
 {
