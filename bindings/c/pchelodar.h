@@ -1,6 +1,6 @@
 /* The engine of Pchelodar for C: sliding windows over one feed of readings, shared by up to 32 queries.
  *
- * Link libpchelodar_c.a, which `rt staticlib pchelodar_c` proves and writes (x86-64 Linux). The library allocates
+ * Link libpchelodar_c.a, which `tools/build library` proves and writes (x86-64 Linux). The library allocates
  * nothing, keeps nothing between two calls and calls nothing but memcpy and memset: everything that it knows stands in
  * slices that the caller lends to each call, a pointer and a number of places. The same slices go to every call, as the
  * call before left them.

@@ -1,6 +1,6 @@
 //! Pchelodar for Rust: sliding windows over one feed of readings, shared by up to 32 queries.
 //!
-//! A safe wrapper of the five calls of `libpchelodar_c.a`, which `rt staticlib pchelodar_c` proves and writes. Names
+//! A safe wrapper of the five calls of `libpchelodar_c.a`, which `tools/build library` proves and writes. Names
 //! and numbers are those of document 01, "Shared window engine for a crane-site feed". Two layers:
 //!
 //! - [`Lent`]: the caller lends every slice, as in C. Nothing is allocated. Every length and every content is safe.

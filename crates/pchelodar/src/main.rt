@@ -2,18 +2,22 @@
 
 // The session program (document 01, "Session lines"): it reads standard input, calls the session, and writes standard
 // output.
-ghost use Rattle.std.specs.Prelude.{◌≡◌, true, ◌≤◌, length};
+ghost use Rattle.std.specs.Prelude.{◌≡◌, true, ◌≤◌, length, min, pos, negsuc, MatchResult};
 ghost use Rattle.board.specs.Tables.{tables};
 ghost use Rattle.parse.specs.Kept.{kept_length};
 ghost use Rattle.session.specs.Promises.{held, Lent, lent, lent_long, finish_room};
 ghost use Rattle.pchelodar.specs.Promises.{Told, after_write, after_feed, ChunkFed, read_of, AfterRead, Heard, AllRead, Handed, after_reads, Concluded};
 
 use deque::ring::CAPACITY;
-use libc::{STDERR_FILENO, STDIN_FILENO, STDOUT_FILENO};
 use parse::kept::KEPT;
 use registry::list::LIST_PLACES;
 use session::stream::Session;
+use std::io::{Read, Stdin};
 use window::count::Count;
+
+// The streams that are written, by their numbers.
+const STDOUT_FILENO: i32 = 1;
+const STDERR_FILENO: i32 = 2;
 
 // How a run goes on, or ended.
 #[derive(Clone, Copy)]
@@ -169,9 +173,26 @@ fn after_read(
     )
 }
 
+// What a read returned, as one number: how many bytes it brought, and -1 where it failed.
+fn returned(read: std::io::Result<usize>) -> isize
+    ensures { MatchResult read (λ n. result ≡ pos (min n 9223372036854775807)) (λ e. result ≡ negsuc 0) }
+{
+    match read {
+        Ok(count) => {
+            if count <= 9_223_372_036_854_775_807 {
+                count as isize
+            } else {
+                9_223_372_036_854_775_807
+            }
+        }
+        Err(_) => -1,
+    }
+}
+
 // Standard input to its end. A loop needs a number that falls: so many reads are more than a machine can make in a
 // century.
 fn read_all(
+    input: &mut Stdin,
     session: Session,
     list: &mut [u32],
     line: &mut [u8],
@@ -193,7 +214,7 @@ fn read_all(
     let mut reads: u64 = 18_446_744_073_709_551_615;
     while 0 < reads {
         reads -= 1;
-        let got = libc::read(STDIN_FILENO, chunk);
+        let got = returned(input.read(chunk));
         let next = after_read(
             got, held, list, line, starts, sums, max_starts, max_values, min_starts, min_values,
             chunk, out,
@@ -281,6 +302,7 @@ fn message(text: &[u8]) {
 
 // A whole session.
 fn run(
+    input: &mut Stdin,
     list: &mut [u32],
     line: &mut [u8],
     starts: &mut [Count],
@@ -300,7 +322,7 @@ fn run(
         list, starts, sums, max_starts, max_values, min_starts, min_values,
     );
     let done = read_all(
-        opened, list, line, starts, sums, max_starts, max_values, min_starts, min_values, chunk,
+        input, opened, list, line, starts, sums, max_starts, max_values, min_starts, min_values, chunk,
         out,
     );
     conclude(
@@ -308,7 +330,8 @@ fn run(
     )
 }
 
-fn main() {
+fn main(rt: HostRuntime) {
+    let mut input = rt.stdin();
     let mut list = [0u32; LIST_PLACES];
     let mut line = [0u8; KEPT];
     let mut starts: [Count; CAPACITY] = [0; CAPACITY];
@@ -320,6 +343,7 @@ fn main() {
     let mut chunk = io::large_buffer();
     let mut out = io::large_buffer();
     let ending = run(
+        &mut input,
         &mut list,
         &mut line,
         &mut starts,
