@@ -1,10 +1,10 @@
 -- How the records and places from the k-th on become 0, one after the other.
 -- Assumes nothing.
-use Rattle.std.proofs.Common.{◌≡◌, ℕ, ◌+◌, ◌*◌, ◌<◌, ◌≤◌, ◌≢◌, List, length, get_or, set, sym, refl, ◌∙◌, subst, arith, length-set, get_or-set_other, get_or-set_same, drop-set-lt}
+use Rattle.std.proofs.Common.{◌≡◌, ℕ, ◌+◌, ◌*◌, ◌<◌, ◌≤◌, ◌≢◌, List, length, get_or, set, sym, ◌∙◌, subst, arith, length-set, get_or-set_other, get_or-set_same, drop-set-lt}
 use Rattle.window.proofs.Lists.{le_cases}
 use Rattle.registry.specs.Records.{record_limit, query_numbers, order_at, list_places, number_at, record_at, with_record, unused, ListKept}
 use Rattle.registry.specs.Edits.{Cleared}
-use Rattle.registry.proofs.Laying.{record-length, record-past, record-other, record_same, same-later, same_at, used-same, order_same, at-tidy, kept_same, kept_then}
+use Rattle.registry.proofs.Laying.{record-length, record-past, record-other, record_same, same-later, same_at, used-same, order_same, at-tidy, kept_then}
 
 -- the list with record i and place i 0
 abbrev pub without : ℕ → List ℕ → List ℕ
@@ -53,18 +53,6 @@ pub record Clearing (k : ℕ) (l₀ : List ℕ) (i : ℕ) (l : List ℕ) : Type 
   pub records : (j : ℕ) → k ≤ j → j < i → record_at l j ≡ unused
   pub places : (j : ℕ) → k ≤ j → j < i → get_or l (order_at + j) 0 ≡ 0
   pub kept : ListKept l₀ l
-
-pub clearing_start : (k : ℕ) (l : List ℕ) → k ≤ record_limit → Clearing k l k l
-clearing_start k l c =
-    record {
-      first = omega arith;
-      last = c;
-      used = λ j h. refl;
-      order = λ j h. refl;
-      records = λ j a b. absurd (omega arith);
-      places = λ j a b. absurd (omega arith);
-      kept = kept_same l;
-    }
 
 pub clearing_next : (k : ℕ) (l₀ : List ℕ) (i : ℕ) (l m : List ℕ) → list_places ≤ length l₀ → i < record_limit → Clearing k l₀ i l → m ≡ with_record i unused l
     → Clearing k l₀ (i + 1) (set m (order_at + i) 0)

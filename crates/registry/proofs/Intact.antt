@@ -1,8 +1,8 @@
 -- What holds of a list of queries that passes check 2, how many records are used, and what the check comes to: the laws
 -- that the calls lean on.
 -- Assumes nothing.
-use Rattle.std.proofs.Common.{◌≡◌, ℕ, ◌<◌, ◌≤◌, Bool, true, false, not, ◌&&◌, ◌||◌, ltb, leb, List, [], ◌∷◌, length, sym, refl, ap, ◌∙◌, ltb-false, le-ltb, le-leb, leb-true}
-use borrow.Author.Tests.{lt-leb, not-true}
+use Rattle.std.proofs.Common.{◌≡◌, ℕ, ◌≤◌, Bool, true, false, not, ◌&&◌, ◌||◌, ltb, leb, List, [], ◌∷◌, length, sym, refl, ap, ◌∙◌, ltb-false, le-ltb, le-leb, leb-true}
+use borrow.Author.Tests.{not-true}
 use Rattle.window.specs.declared.query.Query.{Query}
 use Rattle.window.specs.Lists.{any, Each}
 use Rattle.window.specs.Queries.{Limits, query_limit}
@@ -68,11 +68,6 @@ module _ (n k : ℕ) (l : List ℕ) where
   fits-intact s h = rw (le-ltb query_limit k (fits-few h), fits_sound h, s)
 
   -- ---- what the check comes to
-
-  -- more than 32 records
-  pub fits-many : record_limit < k → false ≡ list_fits n k l
-  unfolding list_fits
-  fits-many m = rw (lt-leb k record_limit m)
 
   module _ (few : k ≤ record_limit) where
     -- places that are not in order

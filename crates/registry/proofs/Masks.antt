@@ -1,7 +1,7 @@
 -- The laws of check 2 on the fields of many records at once: an or is below a power of 2 exactly where both numbers
 -- are, and x less 1 is exactly where x is 1 to that power.
 -- Assumes nothing.
-use Rattle.std.proofs.Common.{◌≡◌, ℕ, ◌+◌, ◌%◌, ◌^◌, ◌<◌, ◌≤◌, Bool, true, false, not, ◌&&◌, ◌||◌, ltb, leb, refl, ap, ◌∙◌, ap₂, arith, le-ltb, lt-ltb, le-leb, leb-false, leb-true}
+use Rattle.std.proofs.Common.{◌≡◌, ℕ, ◌+◌, ◌%◌, ◌^◌, ◌<◌, ◌≤◌, Bool, true, false, not, ◌&&◌, ◌||◌, ltb, leb, refl, ap, ◌∙◌, ap₂, arith, le-leb, leb-false, leb-true}
 use lib.Bits.{bit_or, or_lt, or_add_and, and_le_l, and_le_r}
 use borrow.Author.Tests.{lt-leb}
 use Rattle.window.specs.declared.query.Query.{Query}
@@ -9,14 +9,6 @@ use Rattle.window.specs.Queries.{number_limit, kind_limit, length_limit}
 use Rattle.window.specs.Refusals.{within}
 use Rattle.registry.specs.declared.bits.Bits.{Bits}
 use Rattle.registry.specs.Fields.{fields_outside, bits_outside, FieldJoined}
-
--- one of two numbers is less than the other where that other is not at most it
-ltb_not : (a b : ℕ) → ltb a b ≡ not (leb b a)
-ltb_not a b = go (leb b a) refl
-  where
-    go : (t : Bool) → leb b a ≡ t → ltb a b ≡ not t
-    go true e = le-ltb a b (leb-true b a e)
-    go false e = lt-ltb a b (leb-false b a e)
 
 -- four tests, two by two
 pub or_across : (a b c d : Bool) → ((a || b) || (c || d)) ≡ ((a || c) || (b || d))
@@ -65,24 +57,3 @@ record-joined b r q number kind range slide =
     four : (a b c d e f g h : Bool) → ((a || e) || ((b || f) || ((c || g) || (d || h)))) ≡ ((a || (b || (c || d))) || (e || (f || (g || h))))
     four a b c d e f g h =
         ap (λ (t : Bool). (a || e) || ((b || f) || t)) (or_across c g d h) ∙ ap (λ (t : Bool). (a || e) || t) (or_across b f (c || d) (g || h)) ∙ or_across a e (b || (c || d)) (f || (g || h))
-
--- ---- what the tests of the bits come to
-
-module _ (b : Bits) where
-  pub number_outside : number_limit < b.number → false ≡ not (bits_outside b)
-  unfolding bits_outside
-  number_outside o = rw (lt-ltb number_limit b.number o)
-
-  module _ (number : b.number ≤ number_limit) where
-    pub kind_outside : kind_limit ≤ b.kind → false ≡ not (bits_outside b)
-    unfolding bits_outside
-    kind_outside o = rw (le-ltb number_limit b.number number, le-leb kind_limit b.kind o)
-
-    module _ (kind : b.kind < kind_limit) where
-      pub range_outside : length_limit ≤ b.range → false ≡ not (bits_outside b)
-      unfolding bits_outside
-      range_outside o = rw (le-ltb number_limit b.number number, lt-leb kind_limit b.kind kind, le-leb length_limit b.range o)
-
-      pub slide_decides : b.range < length_limit → ltb b.slide length_limit ≡ not (bits_outside b)
-      unfolding bits_outside
-      slide_decides range = rw (le-ltb number_limit b.number number, lt-leb kind_limit b.kind kind, lt-leb length_limit b.range range) (ltb_not b.slide length_limit)

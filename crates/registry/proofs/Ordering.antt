@@ -1,7 +1,7 @@
 -- The laws of the places by ascending number: how far a search along them is, what they are with one more, that they
 -- stay in order, and that no number is shared along them.
 -- Assumes nothing.
-use Rattle.std.proofs.Common.{◌≡◌, ℕ, suc, ◌+◌, ◌<◌, ◌≤◌, Bool, true, false, cond, ◌&&◌, ◌||◌, eqb, ltb, List, [], ◌∷◌, ◌++◌, length, get_or, take, drop, sym, refl, ap, ◌∙◌, subst, add-one, arith, length-append, length-drop, take-append-drop, drop_of_length-le, length-take-le, get_or-drop, drop-cons, get_or-take, ltb-false, ltb-true, le-ltb, lt-ltb, eq-eqb, ne_eqb, eqb-true}
+use Rattle.std.proofs.Common.{◌≡◌, ℕ, suc, ◌+◌, ◌<◌, ◌≤◌, Bool, true, false, cond, ◌&&◌, ◌||◌, eqb, ltb, List, [], ◌∷◌, ◌++◌, length, get_or, take, drop, sym, refl, ap, ◌∙◌, subst, add-one, arith, length-append, length-drop, take-append-drop, length-take-le, get_or-drop, drop-cons, get_or-take, ltb-false, ltb-true, le-ltb, lt-ltb, eq-eqb, ne_eqb, eqb-true}
 use borrow.Author.Tests.{eqb-false}
 use Rattle.window.specs.declared.query.Query.{Query}
 use Rattle.window.specs.Lists.{Each}
@@ -29,10 +29,6 @@ place_in k l j c w h p = (subst (Each (λ (i : ℕ). i < k)) (place-next k l j c
 
 -- ---- the search for a number's rank
 
--- all of the places are left
-pub rank-start : (number k : ℕ) (l : List ℕ) → rank number l (order k l) ≡ 0 + rank number l (drop 0 (order k l))
-rank-start number k l = omega arith
-
 -- the first number that is not less ends it
 pub rank_found : (number k : ℕ) (l : List ℕ) (j : ℕ) → k ≤ record_limit → list_places ≤ length l → j < k → number ≤ number_at l (get_or l (order_at + j) 0)
     → j + rank number l (drop j (order k l)) ≡ j
@@ -42,12 +38,6 @@ rank_found number k l j c w h e = rw (place-next k l j c w h, le-ltb (number_at 
 pub rank-next : (number k : ℕ) (l : List ℕ) (j : ℕ) → k ≤ record_limit → list_places ≤ length l → j < k → number_at l (get_or l (order_at + j) 0) < number
     → j + rank number l (drop j (order k l)) ≡ j + 1 + rank number l (drop (j + 1) (order k l))
 rank-next number k l j c w h e = rw (place-next k l j c w h, lt-ltb (number_at l (get_or l (order_at + j) 0)) number e) (omega arith)
-
--- none is left
-pub rank-ended : (number k : ℕ) (l : List ℕ) (j : ℕ) → k ≤ record_limit → list_places ≤ length l → k ≤ j → j + rank number l (drop j (order k l)) ≡ j
-rank-ended number k l j c w h =
-    let short : length (order k l) ≤ j = rw (order-length k l c w) h in
-    rw (drop_of_length-le (order k l) short) (omega arith)
 
 -- ---- one place more
 

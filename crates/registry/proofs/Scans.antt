@@ -7,7 +7,7 @@ use Rattle.window.specs.Lists.{filter, any, Each}
 use Rattle.window.specs.Queries.{due, window_start, horizon}
 use Rattle.window.specs.Refusals.{due_at}
 use Rattle.window.proofs.Lists.{each_drop, length-filter}
-use Rattle.window.proofs.Queries.{horizon_le_count, horizon_cons}
+use Rattle.window.proofs.Queries.{horizon_cons}
 use Rattle.registry.specs.Records.{tabulate, record_at, used}
 use Rattle.registry.proofs.Tabulating.{drop-tabulate, tabulate-next, tabulate-ended, tabulated_at}
 use Rattle.registry.proofs.Intact.{used-count}
@@ -101,11 +101,6 @@ pub due-few : (n k : ℕ) (l : List ℕ) → length (due_at n (used k l)) ≤ k
 due-few n k l = omega (arith, length-filter (due n) (used k l), used-count k l)
 
 -- ---- the horizon
-
--- the lesser of the least start so far and the horizon of what is left: at the first place, with n as the least, it is
--- the whole horizon
-pub least_first : (n : ℕ) (qs : List Query) → Each (λ (q : Query). q.origin ≤ n) qs → min n (horizon n qs) ≡ horizon n qs
-least_first n qs h = omega (arith, horizon_le_count n qs h)
 
 module _ (n k : ℕ) (l : List ℕ) (i : ℕ) where
   module _ (inside : i < k) (h : Each (λ (q : Query). q.origin ≤ n) (used k l)) where

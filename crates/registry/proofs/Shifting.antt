@@ -2,7 +2,7 @@
 -- the one that was lent with the first j of the new places.
 -- Assumes nothing.
 use Rattle.std.proofs.Common.{◌≡◌, ℕ, suc, ◌+◌, ◌-◌, ◌<◌, ◌≤◌, List, ◌∷◌, ◌++◌, length, get_or, take, drop, set, sym, ap, ◌∙◌, ap₂, append_assoc, add-one, arith, take-append-drop, length-take-le, get_or-drop, take_all, drop-cons, get_or-take, take-take, drop-drop, take_at, get_or-append-add}
-use lib.Seq.{get_or_at, paste, paste-suc, length-paste, length_paste_head}
+use lib.Seq.{get_or_at, paste, paste-suc, length_paste_head}
 use Rattle.registry.specs.Records.{record_limit, order_at, list_places, order}
 use Rattle.registry.proofs.Ordering.{with_place_at, order-length, length-with_place}
 
@@ -51,9 +51,6 @@ module _ (k r : ℕ) (l : List ℕ) (c : k < record_limit) (w : list_places ≤ 
 
   pub carried_start : k ≡ get_or new r 0
   carried_start = sym (with_place-new k r (order k l) (rw sized within))
-
-  pub shift_length : (j : ℕ) (m : List ℕ) → j ≤ k + 1 → m ≡ paste l order_at new j → length m ≡ length l
-  shift_length j m below e = ap length e ∙ length-paste l order_at new j (omega arith) (rw long (omega arith))
 
   module _ (j : ℕ) (m : List ℕ) (above : r ≤ j) (below : j ≤ k) (moved : m ≡ paste l order_at new j) where
     -- the place that is read is as it was, and is carried one place on

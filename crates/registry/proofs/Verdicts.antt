@@ -4,11 +4,11 @@ use Rattle.std.proofs.Common.{◌≡◌, ℕ, ◌+◌, ◌*◌, ◌<◌, ◌≤�
 use borrow.Author.Tests.{lt-leb}
 use Rattle.window.specs.declared.query.Query.{Query}
 use Rattle.window.specs.declared.refusal.Refusal.{Refusal}
-use Rattle.window.specs.declared.refusal.Refusal.TheVariants.{NumberTaken, ListFull, NotRegistered, CountExhausted, AnswersTooShort}
+use Rattle.window.specs.declared.refusal.Refusal.TheVariants.{NumberTaken, ListFull, AnswersTooShort}
 use Rattle.window.specs.declared.refusal.Verdict.{Verdict}
 use Rattle.window.specs.declared.refusal.Verdict.TheVariants.{Passed, Refused}
 use Rattle.window.specs.Queries.{query_limit, count_limit}
-use Rattle.window.specs.Refusals.{first_refusal, is_registered, due_at, answer_places, field_checks, list_checks, register_checks, withdraw_checks, count_checks, places_checks, reading_checks, reading_checks_at}
+use Rattle.window.specs.Refusals.{first_refusal, is_registered, due_at, answer_places, field_checks, list_checks, register_checks, count_checks, places_checks, reading_checks, reading_checks_at}
 use Rattle.window.proofs.Refusals.{passed_any, passed_then, refused_then}
 
 -- ---- a registration
@@ -39,29 +39,7 @@ module _ (qs : List Query) (number kind range slide : ℕ) (v : Verdict) (e : v 
   unfolding list_checks
   register_joins p t l = sym (register-list p ∙ rw (t, lt-leb query_limit (length qs) l))
 
--- ---- a withdrawal
-
--- the number is registered
-pub withdraw_found : (qs : List Query) (number : ℕ) → is_registered number qs ≡ true → Passed ≡ first_refusal (withdraw_checks qs number)
-unfolding withdraw_checks
-withdraw_found qs number t = rw t
-
--- it is not
-pub withdraw_missing : (qs : List Query) (number : ℕ) → is_registered number qs ≡ false → Refused NotRegistered ≡ first_refusal (withdraw_checks qs number)
-unfolding withdraw_checks
-withdraw_missing qs number t = rw t
-
 -- ---- a reading
-
--- the count is exhausted
-pub count_exhausted : (limit n : ℕ) → limit ≤ n → Refused CountExhausted ≡ first_refusal (count_checks limit n)
-unfolding count_checks
-count_exhausted limit n l = rw (le-leb limit n l)
-
--- it is not
-pub count_left : (limit n : ℕ) → n < limit → Passed ≡ first_refusal (count_checks limit n)
-unfolding count_checks
-count_left limit n l = rw (lt-leb limit n l)
 
 module _ (n : ℕ) (qs : List Query) (places : ℕ) where
   -- the answers have no room

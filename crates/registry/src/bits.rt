@@ -37,6 +37,7 @@ impl Bits {
     }
 
     // Whether no field of the records is outside.
+    #[tactic(auto, unfolding(crate::specs::Fields::bits_outside))]
     pub(crate) fn within(self) -> bool
         ensures { result ≡ not (bits_outside self) }
     {

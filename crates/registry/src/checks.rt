@@ -58,6 +58,7 @@ fn whole(list: &[u32], k: usize, n: Count) -> bool
 
 // Check 2 on the list, with k queries registered and n readings taken. Of a list that is too short it says that it does
 // not fit.
+#[tactic(auto, unfolding(crate::specs::Records::list_fits))]
 pub fn fits(list: &[u32], k: usize, n: Count) -> bool
     ensures { list_places ≤ length list.now → result ≡ list_fits n k list.now }
 {
@@ -98,6 +99,7 @@ pub fn check_register(
 }
 
 // Check 9.
+#[tactic(auto, unfolding(window::specs::Refusals::withdraw_checks))]
 pub fn check_withdraw(list: &[u32], k: usize, number: u32) -> Verdict
     requires { (list_places ≤ length list.now) × (k ≤ record_limit) }
     ensures { result ≡ first_refusal (withdraw_checks (used k list.now) number) }
@@ -109,6 +111,7 @@ pub fn check_withdraw(list: &[u32], k: usize, number: u32) -> Verdict
 }
 
 // Check 10, with n readings taken: the next one can be counted.
+#[tactic(auto, unfolding(window::specs::Refusals::count_checks))]
 pub fn check_count(n: Count) -> Verdict
     ensures { result ≡ first_refusal (count_checks count_limit n) }
 {
