@@ -43,7 +43,7 @@ PerformsOn limit on reads tells totals m o m' = tells m o m'
 
 -- a reading is given an answer table of so many places, with any content; its answers are read from the places as it
 -- leaves them. `promised` says what it promises; what it comes to, as one equation, stands at `places_after`
--- (`specs/Contracts.antt`)
+-- (`specs/Promises.antt`)
 pub record Reads {M : Type 0} (promised : ℤ → List ℤ → List ℤ → M → Outcome → M → Type 0) (v : ℤ) (places : ℕ) (m : M) (o : Outcome) (m' : M) : Type 0 where
   pub before : List ℤ
   pub after : List ℤ
