@@ -14,15 +14,6 @@ use Rattle.print.proofs.Digits.{decimal-some, decimal-small, decimal_large, deci
 pub put-none : (l : List ℕ) (at : ℕ) → Put l at [] l at
 put-none l at = record { ends = omega arith; as_long = refl; text = sym (append-nil (take at l)); beyond = refl }
 
-pub put_one : (l : List ℕ) (at b : ℕ) → at < length l → Put l at (b ∷ []) (set l at b) (at + 1)
-put_one l at b h =
-    record {
-      ends = refl;
-      as_long = length-set l at b;
-      text = rw add-one (take-suc-set l at b h);
-      beyond = drop-set-lt (at + 1) l at b (omega arith);
-    }
-
 -- slices alike from b on are alike from any later place on
 alike_later : (m l : List ℕ) (b c : ℕ) → b ≤ c → drop b m ≡ drop b l → drop c m ≡ drop c l
 alike_later m l b c h e =
