@@ -1,18 +1,14 @@
 -- Laws of numbers as a line writes them.
 -- Assumes nothing.
 use mathlib.Core.Path.{◌≡◌, refl, sym, ◌∙◌, ap}
-use Prim.Native.Nat.{ℕ, zero, suc, ◌+◌, ◌*◌, ◌-◌, ◌<◌, ◌≤◌, min}
+use Prim.Native.Nat.{ℕ, ◌+◌, ◌*◌, ◌-◌, ◌<◌, ◌≤◌, min}
 use native.Mathlib.Omega.{arith}
-use mathlib.Core.Bool.{Bool, true, false, not, ◌&&◌, cond}
+use mathlib.Core.Bool.{Bool, true, false, ◌&&◌, cond}
 use mathlib.Core.List.{List, [], ◌∷◌}
 use lib.ListN.{length, get_or, take, drop, drop_of_length-le, length-drop}
 use lib.Seq.{take_all}
-use lib.Dec.{eqb, leb}
+use lib.Dec.{leb}
 use borrow.Author.Tests.{le-leb, lt-leb, leb-true, eq-eqb, ne_eqb}
-use lib.IntN.{ℤ, pos, neg_ℤ, ◌-ℤ◌, +ℤ_idl}
-use mir.Syntax.{w32, w64}
-use mir.Val.{SFits, to_z, of_z}
-use mir.Facts.{to_z-of_z, to_z_pos, sfits_widen}
 use Rattle.parse.specs.Numbers.{digit, digits, written, starts, digits_value, value_or, number_of, NumberBelow, signed_of, positive, negative}
 use Rattle.parse.specs.declared.numbers.Number.{Number}
 use Rattle.parse.specs.declared.numbers.Signed.{Signed}
@@ -51,49 +47,7 @@ module _ (s : List ℕ) (i cap n a : ℕ) where
   unfolding value_or
   value_end l k h = omega (arith, h, ap (value_or cap n) (drop_of_length-le s l))
 
--- ---- a number of 32 bits
-
-pub fits_pos : (m : ℕ) → m ≤ 2147483647 → SFits w32 (pos m)
-fits_pos m h = record { sfits = omega arith }
-
-pub fits_neg : (m : ℕ) → m ≤ 2147483648 → SFits w32 (neg_ℤ (pos m))
-fits_neg zero h = record { sfits = omega arith }
-fits_neg (suc m) h = record { sfits = omega arith }
-
-minus_is : (m : ℕ) → pos 0 -ℤ pos m ≡ neg_ℤ (pos m)
-minus_is m = +ℤ_idl (neg_ℤ (pos m))
-
-module _ (m : ℕ) (h : m ≤ 2147483648) where
-  as_wide : to_z w64 m ≡ pos m
-  as_wide = to_z_pos w64 (omega arith)
-
-  -- 0 - m does not wrap
-  pub zero_less : SFits w64 (pos 0 -ℤ to_z w64 m)
-  zero_less = rw (as_wide, minus_is m) (sfits_widen {w = w32} {w' = w64} tt (fits_neg m h))
-
-  -- and is the negative of m
-  pub less_is : to_z w64 (of_z w64 (pos 0 -ℤ to_z w64 m)) ≡ neg_ℤ (pos m)
-  less_is = to_z-of_z zero_less ∙ ap (λ z. pos 0 -ℤ z) as_wide ∙ minus_is m
-
--- a number of 32 bits is what its bits stand for
-pub from_bits : {a a₁ : ℤ} → a₁ ≡ a → SFits w32 a → to_z w32 (of_z w32 a₁) ≡ a
-from_bits e f = ap (λ z. to_z w32 (of_z w32 z)) e ∙ to_z-of_z f
-
 -- ---- digits without a leading zero
-
-pub starts_none : (s : List ℕ) → length s ≡ 0 → false ≡ starts s
-starts_none [] h = refl
-starts_none (b ∷ bs) h = absurd (omega arith)
-
-pub starts-one : (s : List ℕ) → length s ≡ 1 → true ≡ starts s
-starts-one [] h = absurd (omega arith)
-starts-one (b ∷ []) h = refl
-starts-one (b ∷ c ∷ bs) h = absurd (omega arith)
-
-pub starts_more : (s : List ℕ) → (length s ≡ 0 → ⊥) → (length s ≡ 1 → ⊥) → not (eqb (get_or s 0 0) 48) ≡ starts s
-starts_more [] p q = absurd (p refl)
-starts_more (b ∷ []) p q = absurd (q refl)
-starts_more (b ∷ c ∷ bs) p q = refl
 
 written_is : (s : List ℕ) → written s ≡ (starts s && digits s)
 written_is [] = refl

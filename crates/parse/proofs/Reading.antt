@@ -1,12 +1,10 @@
--- Laws of a whole line: what its first field names, and its numbers.
+-- Laws of a whole line: the fields after the first, and what the line asks.
 -- Assumes nothing.
 use mathlib.Core.Path.{◌≡◌, refl, sym, ◌∙◌, ap}
 use Prim.Native.Nat.{ℕ, ◌<◌, ◌≤◌}
-use native.Mathlib.Omega.{arith}
 use mathlib.Core.Bool.{Bool, true, false, cond}
 use mathlib.Core.List.{List, [], ◌∷◌}
-use lib.ListN.{length, get_or}
-use lib.Dec.{eqb}
+use lib.ListN.{length}
 use borrow.Author.Tests.{lt-ltb, le-ltb}
 use Rattle.window.specs.declared.refusal.Refusal.TheVariants.{LineTooLong, UnknownLine}
 use Rattle.parse.specs.declared.fields.Field.{Field}
@@ -19,21 +17,6 @@ use Rattle.parse.specs.Fields.{parts, field_at, fields_from, bytes_of, is_last}
 use Rattle.parse.specs.Numbers.{unsigned_of, signed_of}
 use Rattle.parse.specs.Lines.{line_length, name_of, four_numbers, one_number, one_signed, register_line, withdraw_line, reading_line, named, command, parsed}
 use Rattle.parse.proofs.Scanning.{fields_all, on_field, Goes, fields_are, one_less, one_more, last_is, not_last}
-
--- ---- what the first field names
-
--- a field of another length than 1 names nothing
-pub name_unknown : (s : List ℕ) → (length s ≡ 1 → ⊥) → Name.Unknown ≡ name_of s
-name_unknown [] e = refl
-name_unknown (x ∷ []) e = absurd (e refl)
-name_unknown (x ∷ y ∷ ys) e = refl
-
--- a field of one byte, by the tests for R, D and V
-pub name_is : (s : List ℕ) {r d v : Bool} → length s ≡ 1 → eqb (get_or s 0 0) 82 ≡ r → eqb (get_or s 0 0) 68 ≡ d → eqb (get_or s 0 0) 86 ≡ v
-    → cond r Name.Register (cond d Name.Withdraw (cond v Name.Reading Name.Unknown)) ≡ name_of s
-name_is [] one er ed ev = absurd (omega arith)
-name_is (x ∷ []) one er ed ev = rw (sym er, sym ed, sym ev)
-name_is (x ∷ y ∷ ys) one er ed ev = absurd (omega arith)
 
 -- ---- the fields after the first, as the cursor goes over them: `f` is the field at `at`, and `a` the position after
 -- it; then `g` and `b`, `h` and `c`, `k` and `d`

@@ -6,10 +6,10 @@ use native.Mathlib.Numerals.{add-one}
 use native.Mathlib.Omega.{arith}
 use mathlib.Core.Bool.{Bool, true, false, true≢false, cond}
 use mathlib.Core.List.{List, [], ◌∷◌}
-use lib.ListN.{length, get_or, take, drop, drop_of_length-le, length-drop}
+use lib.ListN.{length, get_or, take, drop, length-drop}
 use lib.Seq.{drop-cons, drop-drop}
 use lib.Dec.{eqb, ltb}
-use borrow.Author.Tests.{lt-ltb, le-ltb, ltb-true, ltb-false, eq-eqb, ne_eqb}
+use borrow.Author.Tests.{lt-ltb, le-ltb, ltb-true, ltb-false}
 use Rattle.parse.specs.Fields.{onto, parts, until, field_at, after_at, fields_from, bytes_of, InLine, is_last}
 use Rattle.parse.specs.declared.fields.Field.{Field}
 use Rattle.parse.specs.declared.fields.Field.TheVariants.{Text, End}
@@ -32,18 +32,6 @@ until_le b (x ∷ xs) = go (eqb x b) (until_le b xs)
     go true h = omega arith
     go false h = omega arith
 
--- a scan from i on goes on at i + 1, if the byte at i is another
-pub until-more : (b : ℕ) (s : List ℕ) (i : ℕ) → i < length s → (a : ℕ) → a ≡ i + until b (drop i s) → (get_or s i 0 ≡ b → ⊥) → a ≡ i + 1 + until b (drop (i + 1) s)
-until-more b s i l a h e = omega (arith, h, ap (until b) (here s i l) ∙ ap (until_if b (drop (i + 1) s)) (ne_eqb (get_or s i 0) b e))
-
--- it stops at i, if the byte at i is b
-pub until_stop : (b : ℕ) (s : List ℕ) (i : ℕ) → i < length s → (a : ℕ) → a ≡ i + until b (drop i s) → get_or s i 0 ≡ b → i ≡ a
-until_stop b s i l a h e = omega (arith, h, ap (until b) (here s i l) ∙ ap (until_if b (drop (i + 1) s)) (eq-eqb (get_or s i 0) b e))
-
--- it stops at the end
-pub until_end : (b : ℕ) (s : List ℕ) (i : ℕ) → length s ≤ i → (a : ℕ) → a ≡ i + until b (drop i s) → i ≡ a
-until_end b s i l a h = omega (arith, h, ap (until b) (drop_of_length-le s l))
-
 -- ---- the field at a position, and the position after it
 
 module _ (s : List ℕ) (at : ℕ) where
@@ -52,17 +40,6 @@ module _ (s : List ℕ) (at : ℕ) where
 
   abbrev after_if : Bool → ℕ
   after_if t = cond t at (at + until 9 (drop at s) + 1)
-
-  -- up to where the next tab is
-  pub text_is : (e : ℕ) → at ≤ length s → e ≡ at + until 9 (drop at s) → (Text at e ≡ field_at s at) × (e + 1 ≡ after_at s at)
-  unfolding field_at after_at
-  text_is e l h =
-      (ap (Text at) h ∙ sym (ap field_if (le-ltb (length s) at l)), ap (λ (k : ℕ). k + 1) h ∙ sym (ap after_if (le-ltb (length s) at l)))
-
-  -- none beyond the line, and there the position stays
-  pub beyond_is : length s < at → (End ≡ field_at s at) × (at ≡ after_at s at)
-  unfolding field_at after_at
-  beyond_is l = (sym (ap field_if (lt-ltb (length s) at l)), sym (ap after_if (lt-ltb (length s) at l)))
 
   -- it stands in the line
   pub field_within : (f : Field) → f ≡ field_at s at → InLine s f
@@ -133,10 +110,6 @@ stays s at = go (ltb (length s) at)
     go : (t : Bool) → field_if s at t ≡ End → after_if s at t ≡ at
     go true h = refl
     go false h = absurd (true≢false (ap (λ (f : Field). is_last f End) h))
-
--- the test for the last field, by what a field and the one after it were found to be
-pub last-same : (f g h k m : Field) → f ≡ g → h ≡ m → h ≡ k → is_last g k ≡ is_last f m
-last-same f g h k m p q r = sym (ap (λ (t : Field). is_last t m) p ∙ ap (is_last g) (sym q ∙ r))
 
 -- the cursor goes from a position over the field there, to the position after it
 abbrev pub Goes : List ℕ → ℕ → Field → ℕ → Type 0

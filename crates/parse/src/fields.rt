@@ -46,6 +46,7 @@ pub fn find_byte(bytes: &[u8], from: usize, b: u8) -> usize
 }
 
 // The field that starts at a position, and the position after it.
+#[tactic(auto, unfolding(crate::specs::Fields::field_at, crate::specs::Fields::after_at))]
 fn step_at(line: &[u8], at: usize) -> Step
     ensures { (result.field ≡ field_at line.now at) × (result.after ≡ after_at line.now at) }
 {

@@ -59,6 +59,7 @@ fn name_of(first: &[u8]) -> Name
 }
 
 // A field as an unsigned 32-bit number.
+#[tactic(auto, unfolding(crate::specs::Numbers::unsigned_of))]
 fn number_of(line: &[u8], step: Step) -> Number
     requires { InLine line.now step.field }
     ensures { result ≡ unsigned_of (bytes_of line.now step.field) }
@@ -115,6 +116,7 @@ fn one_signed(a: Signed) -> Line
 }
 
 // R number kind range slide: the fields from a position on are the four numbers.
+#[tactic(auto, using(crate::proofs::Scanning::field_within))]
 fn register_line(line: &[u8], at: usize) -> Line
     ensures { result ≡ register_line (fields_from line.now at) }
 {
@@ -134,6 +136,7 @@ fn register_line(line: &[u8], at: usize) -> Line
 }
 
 // D number.
+#[tactic(auto, using(crate::proofs::Scanning::field_within))]
 fn withdraw_line(line: &[u8], at: usize) -> Line
     ensures { result ≡ withdraw_line (fields_from line.now at) }
 {
@@ -146,6 +149,7 @@ fn withdraw_line(line: &[u8], at: usize) -> Line
 }
 
 // V value.
+#[tactic(auto, using(crate::proofs::Scanning::field_within))]
 fn reading_line(line: &[u8], at: usize) -> Line
     ensures { result ≡ reading_line (fields_from line.now at) }
 {
@@ -158,6 +162,7 @@ fn reading_line(line: &[u8], at: usize) -> Line
 }
 
 // What a line asks, without the byte that ends it. Any bytes may stand in it.
+#[tactic(auto, using(crate::proofs::Scanning::field_within, crate::proofs::Reading::too_long))]
 pub fn parse_line(line: &[u8]) -> Line
     ensures { result ≡ parsed line.now }
 {

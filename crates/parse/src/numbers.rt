@@ -72,6 +72,7 @@ fn value(s: &[u8], cap: u64) -> u64
 }
 
 // An unsigned number that may be so much at most.
+#[tactic(auto, using(crate::proofs::Digits::start_malformed, crate::proofs::Digits::value_is, crate::proofs::Digits::value_wide, crate::proofs::Digits::value_none))]
 pub(crate) fn unsigned_number(s: &[u8], most: u64) -> Number
     requires { most ≤ 4294967295 }
     ensures { result ≡ number_of most s.now }
