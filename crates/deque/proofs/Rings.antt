@@ -1,6 +1,6 @@
--- The laws of a ring's view: places, eviction, room for one more, the search by start, and one entry more.
+-- The laws of a ring's view: places, eviction, the search by start, and one entry more.
 -- Assumes nothing.
-use Prim.Native.Nat.{ℕ, zero, suc, ◌+◌, ◌-◌, ◌%◌, ◌<◌, ◌≤◌}
+use Prim.Native.Nat.{ℕ, zero, suc, ◌+◌, ◌-◌, ◌<◌, ◌≤◌}
 use mathlib.Core.Path.{◌≡◌, refl, sym, ap, ap₂, ◌∙◌, subst}
 use mathlib.Core.Bool.{Bool, true, false, cond}
 use mathlib.Core.List.{List, [], ◌∷◌, ◌++◌, map}
@@ -13,7 +13,7 @@ use Rattle.window.specs.Partials.{Entry, live}
 use Rattle.window.specs.Standing.{evicted}
 use Rattle.window.specs.Invariant.{Sorted}
 use Rattle.deque.specs.declared.ring.Ring.{Ring}
-use Rattle.deque.specs.Rings.{capacity, place, listed, view, start_at, starts_of, advanced, with_room, grown, count_before, NeverFalls, newest}
+use Rattle.deque.specs.Rings.{capacity, place, listed, view, start_at, starts_of, advanced, grown, count_before, NeverFalls, newest}
 use Rattle.deque.proofs.Listed.{listed_cong, listed_front, listed_more, listed-drop, listed-map}
 
 -- the ring that starts at place h and has n entries
@@ -84,28 +84,6 @@ pub evict_none : (starts : List ℕ) (hz h n : ℕ) → h < capacity → n ≤ 0
 unfolding count_before listed
 evict_none starts hz h zero hh l = unmoved h 0 hh
 evict_none starts hz h (suc n) hh l = absurd (omega arith)
-
--- ---- room for one more
-
--- a ring that is not full stays as it is
-pub room_spare : (h n : ℕ) → h < capacity → n < capacity → ring_of h n ≡ with_room (ring_of h n)
-room_spare h n hh hn = ap₂ ring_of at_head whole
-  where
-    at_head : h ≡ (h + (n + 1 - 4096)) % 4096
-    at_head = omega arith
-
-    whole : n ≡ n - (n + 1 - 4096)
-    whole = omega arith
-
--- a full one loses its oldest
-pub room_full : (h n next : ℕ) → n ≤ capacity → capacity ≤ n → next ≡ place h 1 → ring_of next (n - 1) ≡ with_room (ring_of h n)
-room_full h n next hn full e = ap₂ ring_of (e ∙ moved) less
-  where
-    moved : (h + 1) % 4096 ≡ (h + (n + 1 - 4096)) % 4096
-    moved = omega arith
-
-    less : n - 1 ≡ n - (n + 1 - 4096)
-    less = omega arith
 
 -- ---- the search
 
