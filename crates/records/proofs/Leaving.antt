@@ -7,8 +7,8 @@ use mathlib.Core.List.{List, [], ◌∷◌, ◌++◌, append_assoc, append-nil}
 use Prim.Native.Nat.{ℕ, suc, ◌+◌, ◌-◌, ◌≤◌, ◌<◌, min}
 use native.Mathlib.Numerals.{add-one}
 use native.Mathlib.Omega.{arith}
-use lib.ListN.{length, get_or, take, drop, set, replicate, length-append, length-take, drop_of_length-le}
-use lib.Seq.{set_at, take-suc, drop-cons, get_or-take}
+use lib.ListN.{length, get_or, take, drop, set, replicate, length-append}
+use lib.Seq.{set_at, take-suc}
 use borrow.Author.Tests.{eq-eqb, ne_eqb}
 use Rattle.window.specs.declared.query.Query.{Query}
 use Rattle.window.specs.Refusals.{has_number, is_registered}
@@ -18,43 +18,15 @@ use Rattle.registry.specs.declared.find.Found.TheVariants.{At, Absent}
 use Rattle.registry.specs.Records.{record_limit, unused, later_by, place_of}
 use Rattle.registry.proofs.Finding.{is_at, registered-at}
 use Rattle.records.specs.declared.edited.Edited.{Edited}
-use Rattle.records.specs.Edited.{same, changed, left_of, withdrawn_from}
+use Rattle.records.specs.Edited.{same, left_of, withdrawn_from}
 use Rattle.records.specs.LentList.{without, filled_up}
 
 -- ---- find
-
--- later and later again
-later_twice : (j k : ℕ) (f : Found) → later_by j (later_by k f) ≡ later_by (j + k) f
-later_twice j k (At i) = ap At (omega arith)
-later_twice j k Absent = refl
 
 module _ (number k : ℕ) (list : List Query) where
   -- where the number is looked for from place i on
   abbrev pub place_from : ℕ → Found
   place_from i = later_by i (place_of number (drop i (take k list)))
-
-  module _ (i : ℕ) (inside : i < k) (w : k ≤ length list) where
-    -- what is left is the record at i and what is left after it
-    rest_cons : drop i (take k list) ≡ get_or list i unused ∷ drop (i + 1) (take k list)
-    rest_cons =
-        let l : i < length (take k list) = simp length-take (omega arith) in
-        drop-cons (take k list) i unused l ∙ rw (get_or-take k list i unused inside, add-one)
-
-    -- it stands at place i
-    pub place_found : number ≡ (get_or list i unused).number → place_from i ≡ At i
-    place_found e = ap (λ (qs : List Query). later_by i (place_of number qs)) rest_cons ∙ rw (eq-eqb number (get_or list i unused).number e) (ap At (omega arith))
-
-    -- it does not, and is looked for from the next place on
-    pub place-next : (number ≡ (get_or list i unused).number → ⊥) → place_from i ≡ place_from (i + 1)
-    place-next e =
-        ap (λ (qs : List Query). later_by i (place_of number qs)) rest_cons
-        ∙ rw (ne_eqb number (get_or list i unused).number e) (later_twice i 1 (place_of number (drop (i + 1) (take k list))))
-
-  -- no place is left
-  pub place-ended : (i : ℕ) → k ≤ i → place_from i ≡ Absent
-  place-ended i ended =
-      let l : length (take k list) ≤ i = simp length-take (omega arith) in
-      ap (λ (qs : List Query). later_by i (place_of number qs)) (drop_of_length-le (take k list) l)
 
 -- ---- the records that are left
 
@@ -76,9 +48,6 @@ pub record Kept (number : ℕ) (list : List Query) (i count : ℕ) (kept : List 
   pub few : count ≤ i
   pub counted : count ≡ length (without number (take i list))
   pub records : kept ≡ filled_up (without number (take i list))
-
-pub kept-none : (number : ℕ) (list kept : List Query) → kept ≡ replicate record_limit unused → Kept number list 0 0 kept
-kept-none number list kept e = record { few = omega arith; counted = refl; records = e }
 
 module _ (number : ℕ) (list : List Query) (i count : ℕ) (kept : List Query) (h : Kept number list i count kept) (c : i < record_limit) (w : i < length list) where
   abbrev stays : Query → Bool
@@ -115,12 +84,6 @@ module _ (number : ℕ) (list : List Query) (i count : ℕ) (kept : List Query) 
         counted = e ∙ h.counted ∙ ap length (sym now);
         records = f ∙ h.records ∙ ap filled_up (sym now);
       }
-
--- all were looked at
-pub kept-all : (number : ℕ) (list : List Query) (i k count : ℕ) (kept : List Query) → Kept number list i count kept → i ≡ k → (r : Edited) → r ≡ changed kept count
-    → r ≡ left_of (without number (take k list))
-kept-all number list i k count kept h e r is =
-    is ∙ ap₂ changed h.records h.counted ∙ ap (λ (m : ℕ). left_of (without number (take m list))) e
 
 -- ---- the two ways through `edited::withdraw`
 

@@ -1,12 +1,4 @@
 pub mod Editing
 pub mod Leaving
 pub mod Laying
-pub mod Steps
-pub mod Giving
-pub mod Local
 pub mod Lists
-pub mod Counting
-pub mod Plain
-pub mod Rows
-pub mod Results
-pub mod Shared
