@@ -24,10 +24,6 @@ use Rattle.board.proofs.Holding.{DequeClosed}
 pub total-fits : (closed total : ℕ) → closed < count_limit → total ≤ total_limit closed → total + capacity < 2 ^ 64
 total-fits closed total l h = omega arith
 
--- one closed partial more
-pub closed-fits : (closed : ℕ) → closed < count_limit → Fits w32 (closed + 1)
-closed-fits closed h = record { fits = omega arith }
-
 -- the sum of a partial as the machine has it
 pub sum_is : (sum : ℤ) → Small sum_limit sum → to_z w64 (of_z w64 sum) ≡ sum
 sum_is sum s = to_z-of_z (small-fits sum_limit sum (omega arith) s)

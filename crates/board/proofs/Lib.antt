@@ -1,4 +1,3 @@
-pub mod Aggregates
 pub mod Lending
 pub mod Lists
 pub mod Closings

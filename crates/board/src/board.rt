@@ -80,6 +80,7 @@ impl Board {
     }
 
     // The aggregate a closes. All three rings are evicted, of what starts before the horizon, before any is written.
+    #[tactic(auto, unfolding(crate::specs::Tables::enough))]
     pub fn close(
         self,
         a: Aggregate,
@@ -110,6 +111,7 @@ impl Board {
 
     // The value of a kind (1 sum, 3 maximum, else minimum) over all that is closed and starts at `from` or later; 0
     // where nothing is.
+    #[tactic(auto, unfolding(crate::specs::Tables::enough))]
     pub fn value_from(
         self,
         kind: u32,
@@ -138,6 +140,7 @@ impl Board {
     }
 
     // The values of the three kinds over all that is closed and starts at the horizon or later.
+    #[tactic(auto, unfolding(crate::specs::Tables::enough))]
     pub fn heads(
         self,
         horizon: Count,

@@ -12,6 +12,7 @@ pub struct Heads {
 
 impl Heads {
     // That of a kind: 1 sum, 3 maximum, else minimum.
+    #[tactic(auto, unfolding(crate::specs::Boards::head_value))]
     pub fn value(self, kind: u32) -> i64
         ensures { result ≡ head_value kind self }
     {

@@ -14,6 +14,7 @@ fn also_long(len: usize, rest: bool) -> bool
 }
 
 // Check 1, by the lengths of the six tables: whether each has 4,096 places or more.
+#[tactic(auto, unfolding(crate::specs::Tables::enough))]
 pub fn enough(a: usize, b: usize, c: usize, d: usize, e: usize, f: usize) -> bool
     ensures { result ≡ enough a b c d e f }
 {
@@ -62,6 +63,7 @@ fn zero_values(table: &mut [i32])
 }
 
 // The first 4,096 places of each of the six become 0.
+#[tactic(auto, unfolding(crate::specs::Tables::enough))]
 pub fn zero(
     starts: &mut [Count],
     sums: &mut [i64],
