@@ -1,6 +1,6 @@
 -- The lent tables (document 01: the board).
 -- Assumes nothing.
-use Rattle.std.specs.Prelude.{ℕ, ◌+◌, ◌≡◌, Bool, ◌&&◌, List, ◌++◌, leb, ℤ, pos, length, replicate, drop}
+use Rattle.std.specs.Prelude.{ℕ, ◌≡◌, Bool, ◌&&◌, List, ◌++◌, leb, ℤ, pos, length, replicate, drop}
 use Rattle.deque.specs.Rings.{capacity}
 
 -- the six tables, as lists

@@ -1,5 +1,5 @@
 -- `Board::value_from`: kind by kind. Assumes nothing.
-use Rattle.std.proofs.Common.{◌∙◌, rules, w64}
+use Rattle.std.proofs.Common.{◌∙◌, arith, rules, w64}
 use Rattle.std.proofs.Math.Facts.{to_z-of_z}
 use Rattle.std.specs.Int.Signed.{le_z}
 use Rattle.ints.proofs.Widened.{wide_is}
@@ -30,7 +30,7 @@ returns-then-kind-eq3 c =
       value = λ h l k le.
           wide_is {z = c.extreme_from.result} (search rules)
           ∙ c.extreme_from.ensures (deque_sorted h l b t k le_z maximum_of t.max_starts t.max_values b.maxima k.maxima)
-          ∙ value-maximum h a.from l b t k le a.kind c.if-kind-eq1.false c.if-kind-eq3.true;
+          ∙ value-maximum h a.from l b t k le a.kind c.if-kind-eq1.false (omega arith);
     }
 
 pub returns : goal.returns
@@ -42,5 +42,5 @@ returns c =
       value = λ h l k le.
           wide_is {z = c.extreme_from-2.result} (search rules)
           ∙ c.extreme_from-2.ensures (deque_sorted h l b t k ge_z minimum_of t.min_starts t.min_values b.minima k.minima)
-          ∙ value-minimum h a.from l b t k le a.kind c.if-kind-eq1.false c.if-kind-eq3.false;
+          ∙ value-minimum h a.from l b t k le a.kind c.if-kind-eq1.false (λ e. omega arith);
     }
