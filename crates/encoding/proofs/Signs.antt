@@ -1,17 +1,16 @@
 -- The laws of a signed number as an unsigned one, and what the machine asks of both.
 -- Assumes nothing.
-use Prim.Native.Nat.{ℕ, ◌+◌, ◌-◌, ◌*◌, ◌/◌, ◌%◌, ◌<◌}
-use mathlib.Core.Path.{◌≡◌, refl, sym, ap, ◌∙◌}
-use mathlib.Core.Bool.{Bool, true, false, cond, false≢true}
+use Prim.Native.Nat.{ℕ, ◌+◌, ◌*◌, ◌/◌, ◌%◌, ◌<◌}
+use mathlib.Core.Path.{◌≡◌, refl, ap, ◌∙◌}
+use mathlib.Core.Bool.{Bool, true, false, cond}
 use native.Mathlib.Omega.{arith}
 use borrow.Author.Tests.{ltb-true, eq-eqb, ne_eqb}
 use lib.Dec.{eqb, ltb}
-use lib.IntN.{ℤ, pos, negsuc, neg_ℤ, nat_abs, ◌-ℤ◌}
-use lib.Signed.{lt_z}
+use lib.IntN.{ℤ, pos, negsuc, neg_ℤ, ◌-ℤ◌}
 use mir.Syntax.{w32, w64}
 use mir.Val.{SFits, to_z, of_z}
 use Rattle.ints.proofs.Balance.{bal_neg, bal_sub, ext}
-use Rattle.ints.proofs.Round.{sub_fits, sub_is}
+use Rattle.ints.proofs.Round.{sub_is}
 use Rattle.ints.proofs.Sizes.{least_is}
 use Rattle.encoding.specs.Signed.{unsigned, signed}
 use Rattle.encoding.specs.Written.{width32, narrow}
@@ -30,22 +29,7 @@ signed-unsigned (negsuc n) = go n (eqb ((2 * n + 1) % 2) 0) (ne_eqb ((2 * n + 1)
     go : (n : ℕ) (b : Bool) → b ≡ false → cond b (pos ((2 * n + 1) / 2)) (negsuc ((2 * n + 1) / 2)) ≡ negsuc n
     go n b e = rw e (ap negsuc (omega arith))
 
--- ---- writing, by the size of the number
-
--- a number below 0
-pub below_is : (z : ℤ) → lt_z z (pos 0) ≡ true → 2 * (nat_abs z - 1) + 1 ≡ unsigned z
-below_is (pos n) h = absurd (omega (arith, ltb-true n 0 h))
-below_is (negsuc n) h = omega arith
-
--- any other
-pub other_is : (z : ℤ) → lt_z z (pos 0) ≡ false → 2 * nat_abs z ≡ unsigned z
-other_is (pos n) h = refl
-other_is (negsuc n) h = absurd (false≢true (sym h))
-
--- the number of one that fits fits
-pub unsigned-below : (z : ℤ) → SFits w64 z → unsigned z < 18446744073709551616
-unsigned-below (pos n) f = omega (arith, f.sfits)
-unsigned-below (negsuc n) f = omega (arith, f.sfits)
+-- ---- writing: the number of one of 32 bits is narrow
 
 pub unsigned-narrow : (z : ℤ) → SFits w32 z → unsigned z < 4294967296
 unsigned-narrow (pos n) f = omega (arith, f.sfits)
@@ -72,9 +56,6 @@ module _ (b : ℕ) (l : b < 9223372036854775808) where
   minus-fits = rw (minus b) (record { sfits = omega arith })
 
   -- as the machine has it
-  pub odd_fits : SFits w64 (to_z w64 (of_z w64 (pos 0 -ℤ to_z w64 b)) -ℤ pos 1)
-  odd_fits = sub_fits {b = pos 1} (least_is b l) refl minus-fits
-
   pub odd_machine : to_z w64 (of_z w64 (to_z w64 (of_z w64 (pos 0 -ℤ to_z w64 b)) -ℤ pos 1)) ≡ negsuc b
   odd_machine = sub_is {b = pos 1} (least_is b l) refl minus-fits ∙ minus b
 

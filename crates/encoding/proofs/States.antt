@@ -3,7 +3,7 @@
 use Prim.Native.Nat.{ℕ, ◌<◌, ◌≤◌}
 use mathlib.Core.Path.{◌≡◌, refl, ap, ◌∙◌}
 use mathlib.Core.Bool.{true}
-use mathlib.Core.List.{List, [], ◌∷◌}
+use mathlib.Core.List.{[], ◌∷◌}
 use borrow.Author.Tests.{lt-ltb, le-leb}
 use lib.IntN.{ℤ}
 use lib.Dec.{ltb}
@@ -11,35 +11,18 @@ use lib.ListN.{length}
 use mir.Syntax.{w32}
 use mir.Val.{SFits}
 use Rattle.window.specs.Queries.{count_limit}
-use Rattle.deque.specs.declared.extremes.Deque.{Deque}
-use Rattle.deque.specs.declared.sums.Sums.{Sums}
 use Rattle.board.specs.declared.aggregate.Aggregate.{Aggregate}
-use Rattle.board.specs.declared.board.Board.{Board}
 use Rattle.engine.specs.declared.partial.Open.{Open}
 use Rattle.engine.specs.declared.partial.Open.TheVariants.{Nothing, Empty, Holding}
 use Rattle.engine.specs.declared.state.State.{State}
 use Rattle.encoding.specs.Signed.{unsigned, signed}
-use Rattle.encoding.specs.Written.{state_numbers, width32, case_of, held_in, held_of, open_of, sums_of, deque_of, at, count_in, narrow, numbers_of_state, board_of, state_of, within_widths, registered_in}
+use Rattle.encoding.specs.Written.{state_numbers, width32, case_of, held_in, held_of, open_of, at, count_in, narrow, numbers_of_state, board_of, state_of, within_widths, registered_in}
 use Rattle.encoding.proofs.Signs.{signed-unsigned, unsigned-narrow}
 
 -- an aggregate by its parts
 pub same-held : {a a' : ℕ} {b b' c c' d d' : ℤ} → a ≡ a' → b ≡ b' → c ≡ c' → d ≡ d'
     → ◌≡◌ {A = Aggregate} (record { start = a; sum = b; maximum = c; minimum = d }) (record { start = a'; sum = b'; maximum = c'; minimum = d' })
 same-held e f g h = rw (e, f, g, h) refl
-
--- a board by its parts, as numbers are read
-pub read-board : (w : List ℕ) {closed : ℕ} {sums : Sums} {maxima minima : Deque}
-    → closed ≡ count_in (at w 1) → sums ≡ sums_of (at w 7) (at w 8) (at w 9) (at w 10) → maxima ≡ deque_of (at w 11) (at w 12) (at w 13) → minima ≡ deque_of (at w 14) (at w 15) (at w 16)
-    → ◌≡◌ {A = Board} (record { closed = closed; sums = sums; maxima = maxima; minima = minima }) (board_of w)
-unfolding board_of
-read-board w a s x n = rw (a, s, x, n) refl
-
--- a state by its parts
-pub read-state : (w : List ℕ) {count registered : ℕ} {held : Aggregate} {partial : Open} {board : Board}
-    → count ≡ count_in (at w 0) → registered ≡ registered_in w → held ≡ held_of (at w 3) (at w 4) (at w 5) (at w 6) → partial ≡ open_of (at w 2) held → board ≡ board_of w
-    → ◌≡◌ {A = State} (record { count = count; registered = registered; partial = partial; board = board }) (state_of w)
-unfolding state_of
-read-state w a g h p b = rw (a, g, p, h, b) refl
 
 -- numbers by their parts, as a state is written
 pub written_numbers : (st : State) {held : Aggregate} {count closed case start sum maximum minimum lap previous : ℕ}

@@ -103,6 +103,7 @@ fn deque_of(head: u64, len: u64, comparisons: u64) -> Deque
 }
 
 // The board that these numbers are read as.
+#[tactic(auto, unfolding(crate::specs::Written::board_of))]
 fn board_of(w: [u64; 18]) -> Board
     ensures { result ≡ board_of w }
 {
@@ -118,6 +119,7 @@ fn board_of(w: [u64; 18]) -> Board
 }
 
 // The state that these numbers are read as.
+#[tactic(auto, unfolding(crate::specs::Written::state_of))]
 fn state_of(w: [u64; 18]) -> State
     ensures { result ≡ state_of w }
 {
@@ -140,6 +142,7 @@ fn also(test: bool, rest: bool) -> bool
 }
 
 // Whether each number is within the width of what it stands for.
+#[tactic(auto, unfolding(crate::specs::Written::within_widths))]
 fn within_widths(w: [u64; 18]) -> bool
     ensures { result ≡ within_widths w }
 {
@@ -152,6 +155,7 @@ fn within_widths(w: [u64; 18]) -> bool
 }
 
 // How many queries are registered: 33 where a number is outside the width of what it stands for.
+#[tactic(auto, unfolding(crate::specs::Written::registered_in))]
 fn registered_in(w: [u64; 18]) -> usize
     ensures { result ≡ registered_in w }
 {
