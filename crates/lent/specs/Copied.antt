@@ -1,4 +1,4 @@
--- What the calls on a copy of the query list promise. `Contracts` has what users are promised.
+-- What the calls on a copy of the query list promise. `Promises` has what users are promised.
 -- Assumes nothing.
 use Rattle.std.specs.Prelude.{ℕ, ◌<◌, ◌≤◌, List, take, replicate}
 use Rattle.window.specs.declared.query.Query.{Query}
