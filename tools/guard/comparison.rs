@@ -6,7 +6,7 @@
 use crate::shape::{arguments, assignments, is_struct, tail};
 use crate::source::{Finding, Function, Open, Sources};
 use crate::steps;
-use crate::tokens::{begins, each_list, is_written, mentions, split, Tree};
+use crate::tokens::{begins, each_list, is_written, split, Tree};
 
 /// Where `compare` is defined, and the function that calls it.
 const FILE: &str = "crates/deque/src/compare.rt";
@@ -14,7 +14,7 @@ const COMPARE: &str = "deque compare";
 const CALLER: &str = "deque Deque::close";
 
 /// How it is brought in.
-const USED: &str = "crate :: compare :: compare";
+const USED: &str = "crate::compare::compare";
 
 /// Its body, as it is to be: one comparison for each extreme.
 const BODY: &str =
@@ -34,16 +34,17 @@ const WRITTEN_IN: [&str; 3] = ["deque", "board", "engine"];
 pub fn rule(sources: &Sources) -> Vec<Finding> {
     let mut found = definitions(sources);
     for file in &sources.files {
-        for item in &file.uses {
-            let renamed = mentions(item, "as").into_iter();
-            found.extend(
-                renamed.map(|line| Finding::new(&file.path, line, "something is brought in under another name")),
-            );
-        }
-        for item in file.uses.iter().filter(|item| !(item.len() == 5 && begins(item, USED))) {
-            let named = |at: &usize| item[*at].is_word("compare") && !begins(&item[at + 1..], "::");
-            let line = (0..item.len()).find(named).map(|at| item[at].line);
-            found.extend(line.map(|line| Finding::new(&file.path, line, "`compare` is brought in by another path")));
+        for one in &file.uses {
+            let mut say = |what| found.push(Finding::new(&file.path, one.line, what));
+            if one.renamed {
+                say("something is brought in under another name");
+            }
+            if one.name() == "*" {
+                say("all that a module has is brought in: what that is is not seen");
+            }
+            if one.name() == "compare" && one.path != USED {
+                say("`compare` is brought in by another path");
+            }
         }
     }
     for function in &sources.functions {

@@ -4,8 +4,12 @@
 //!                                     those that are on, if none is named
 
 mod answers;
+mod brought;
 mod comparison;
+mod erased;
 mod follow;
+mod forms;
+mod kit;
 mod open_partial;
 mod planted;
 mod program;
@@ -30,6 +34,9 @@ const RULES: [Rule; 3] = [
     Rule { name: "values", find: values::rule },
     Rule { name: "session", find: session::rule },
 ];
+
+/// What finds that the sources cannot be read, whatever rules are tried.
+const READING: &str = "sources";
 
 fn main() {
     let words: Vec<String> = std::env::args().skip(1).collect();
@@ -76,13 +83,13 @@ fn shown(rule: &str, one: &Finding) -> String {
     format!("{}:{}: {} (rule {rule})", one.file, one.line, one.what)
 }
 
-/// What the rules find, each with its rule. Sources that cannot be read are found by all.
+/// What the rules find, each with its rule; of sources that cannot be read, that alone.
 fn findings<'a>(rules: &[&'a Rule], texts: &Texts) -> Vec<(&'a str, Finding)> {
     match Sources::of(texts) {
         Ok(sources) => {
             rules.iter().flat_map(|rule| (rule.find)(&sources).into_iter().map(|one| (rule.name, one))).collect()
         }
-        Err(one) => vec![("sources", one)],
+        Err(one) => vec![(READING, one)],
     }
 }
 
@@ -90,11 +97,12 @@ fn findings<'a>(rules: &[&'a Rule], texts: &Texts) -> Vec<(&'a str, Finding)> {
 fn check_planted(rules: &[&Rule], texts: &Texts, folder: &Path) -> Result<(usize, usize), Vec<String>> {
     let (mut planted, mut harmless) = (0, 0);
     let edits = planted::load(folder).map_err(|error| vec![error])?;
-    let unplanted = |rule: &&&Rule| !edits.iter().any(|edit| edit.rule() == Some(rule.name));
-    let none = |rule: &&Rule| format!("planted: no violation of rule {}", rule.name);
-    let mut wrong: Vec<String> = rules.iter().filter(unplanted).map(none).collect();
+    let tried: Vec<&str> = rules.iter().map(|rule| rule.name).chain([READING]).collect();
+    let unplanted = |name: &&&str| !edits.iter().any(|edit| edit.rule() == Some(**name));
+    let none = |name: &&str| format!("planted: no violation of rule {name}");
+    let mut wrong: Vec<String> = tried.iter().filter(unplanted).map(none).collect();
     for edit in &edits {
-        if edit.rule().is_some() && !rules.iter().any(|rule| Some(rule.name) == edit.rule()) {
+        if edit.rule().is_some_and(|name| !tried.contains(&name)) {
             if !RULES.iter().any(|rule| Some(rule.name) == edit.rule()) {
                 wrong.push(format!("planted/{}: named after no rule", edit.name));
             }

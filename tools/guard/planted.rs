@@ -1,7 +1,7 @@
 //! Planted violations: edits in the form of the must-fail edits (`file:`, `old:` and `new:` lines; a path is from the
 //! repository's root), applied to the sources in memory. The name of an edit begins with that of the rule that must
-//! report it, or with `harmless`, which no rule may. Where an `old:` text stands in its file more than once, each place
-//! is tried by itself.
+//! report it, with `sources`, if that is the reading of them, or with `harmless`, which none may. Where an `old:` text
+//! stands in its file more than once, each place is tried by itself.
 
 use crate::source::{folder, Texts};
 use std::fs;

@@ -1,10 +1,13 @@
-//! Rule `session`: the session program (`program.rs`). What it hears from the C library goes on as it was heard, and
+//! Rule `session`: the session program (`program.rs`). What it hears from standard input goes on as it was heard, and
 //! what it says is what the session put into the output: each of its functions calls what `CALLS` says, as often as it
-//! says, and nothing else; the statements of `WRITTEN` stand there one after the other; and the verdicts and the
-//! streams' numbers are named where `NAMED` says. No crate but this one and the demonstration names what reads and
-//! writes.
+//! says, and nothing else; the statements of `WRITTEN` stand there one after the other; and the verdicts, the streams
+//! and what reads and writes them are named where `NAMED` says. No crate but this one and the demonstration names what
+//! reads and writes (`kit.rs`).
 
-use crate::program::{CALLS, CRATE, FILE, FUNCTIONS, KIT, LENT, NAMED, OTHER_PROGRAMS, STREAMS, TABLES, WRITTEN};
+use crate::kit;
+use crate::program::{
+    BROUGHT, CALLS, CRATE, FILE, FUNCTIONS, KIT, LENT, NAMED, PARAMETERS, STREAMS, TABLES, WHOLE, WRITTEN,
+};
 use crate::shape::{arguments, is_keyword, statements};
 use crate::source::{File, Finding, Function, Sources};
 use crate::tokens::{each_list, is_written, mentions, Tree};
@@ -15,15 +18,10 @@ const BRANCHES: [&str; 8] = ["while", "loop", "for", "if", "match", "return", "b
 pub fn rule(sources: &Sources) -> Vec<Finding> {
     let mut found = Vec::new();
     for file in &sources.files {
+        kit::report(sources, file, &mut found);
         if file.krate == CRATE {
             brought_in(file, &mut found);
-        } else if !OTHER_PROGRAMS.contains(&file.krate.as_str()) {
-            for word in KIT {
-                let lines = mentions(&file.trees, word).into_iter();
-                found.extend(
-                    lines.map(|line| Finding::new(&file.path, line, format!("`{word}` in a crate that is no program"))),
-                );
-            }
+            declared(file, &mut found);
         }
     }
     let own: Vec<&Function> = sources.functions.iter().filter(|function| function.krate == CRATE).collect();
@@ -34,31 +32,68 @@ pub fn rule(sources: &Sources) -> Vec<Finding> {
         }
     }
     for function in &own {
+        if !FUNCTIONS.contains(&function.title().as_str()) {
+            found.push(function.finding(function.line, format!("`{}` is none of the program's", function.title())));
+        }
         called(function, &mut found);
         for (_, wanted) in WRITTEN.iter().filter(|(name, _)| function.title() == *name) {
             written(sources, function, wanted, &mut found);
         }
+        whole(function, &mut found);
     }
     named(sources, &own, &mut found);
     found
 }
 
-/// One file, with no module below it, and what it brings in by `use`: of the kit the streams' numbers alone, and
-/// nothing under another name.
+/// One file, with no module below it, and what it brings in by `use`: of `std` what `BROUGHT` says, of the kit nothing,
+/// and nothing under another name.
 fn brought_in(file: &File, found: &mut Vec<Finding>) {
     if file.path != FILE {
         found.push(Finding::new(&file.path, 1, format!("the program is to stand in {FILE} alone")));
     }
     let modules = mentions(&file.trees, "mod").into_iter();
     found.extend(modules.map(|line| Finding::new(&file.path, line, "a module in the program")));
-    for item in &file.uses {
-        let plain = item.iter().all(|tree| tree.is_sign("::") || tree.word().is_some_and(|word| word != "as"));
-        let stream = item.len() == 3 && item[2].word().is_some_and(|word| STREAMS.contains(&word));
-        if !plain {
-            found.push(Finding::new(&file.path, item[0].line, "only plain paths are brought in"));
+    for one in &file.uses {
+        if one.renamed || one.name() == "*" {
+            found.push(Finding::new(&file.path, one.line, "only plain paths are brought in"));
         }
-        if item[0].word().is_some_and(|root| KIT.contains(&root)) && !stream {
-            found.push(Finding::new(&file.path, item[0].line, "of the kit only the streams' numbers are brought in"));
+        let kit = KIT.iter().any(|(word, _)| *word == one.root());
+        if kit || (one.root() == "std" && !BROUGHT.contains(&one.path.as_str())) {
+            found.push(Finding::new(&file.path, one.line, format!("`{}` is brought in", one.path)));
+        }
+    }
+    for path in BROUGHT {
+        let times = file.uses.iter().filter(|one| one.path == path).count();
+        if times != 1 {
+            found.push(Finding::new(&file.path, 1, format!("`{path}` is brought in {times} times, not once")));
+        }
+    }
+}
+
+/// The streams' numbers. That each is named once outside of all functions is said by `NAMED`.
+fn declared(file: &File, found: &mut Vec<Finding>) {
+    let items: Vec<&[Tree]> = file.trees.split_inclusive(|tree| tree.is_sign(";")).collect();
+    for text in STREAMS {
+        let ends_so = |item: &[Tree]| (0..item.len()).any(|at| is_written(&item[at..], text));
+        if !items.iter().any(|item| ends_so(item)) {
+            let name = text.split([' ', ':']).nth(1).unwrap_or_default();
+            let line = mentions(&file.trees, name).first().copied().unwrap_or(1);
+            found.push(Finding::new(&file.path, line, format!("`{text}` is to stand here")));
+        }
+    }
+}
+
+/// The first parameter of a function, by `PARAMETERS`, and the whole of its body, by `WHOLE`.
+fn whole(function: &Function, found: &mut Vec<Finding>) {
+    for (_, name, kind) in PARAMETERS.iter().filter(|(title, _, _)| function.title() == *title) {
+        if !function.params.first().is_some_and(|first| first.name == *name && is_written(&first.kind, kind)) {
+            let what = format!("the first parameter of `{}` is to be `{name}: {kind}`", function.title());
+            found.push(function.finding(function.line, what));
+        }
+    }
+    for (title, text) in WHOLE.iter().filter(|(title, _)| function.title() == *title) {
+        if !is_written(&function.body, text) {
+            found.push(function.finding(function.line, format!("`{title}` is to be `{text}`")));
         }
     }
 }
@@ -145,14 +180,14 @@ fn written(sources: &Sources, function: &Function, wanted: &[&str], found: &mut 
     }
 }
 
-/// Where the verdicts and the streams' numbers are named, also outside of all functions, and that the functions are
-/// named where they are called, and nowhere else.
+/// Where the words of `NAMED` are named, also outside of all functions' bodies, and that the functions are named where
+/// they are called, and nowhere else.
 fn named(sources: &Sources, own: &[&Function], found: &mut Vec<Finding>) {
     let all = |word: &str| -> Vec<usize> {
         let files = sources.files.iter().filter(|file| file.krate == CRATE);
         files.flat_map(|file| mentions(&file.trees, word)).collect()
     };
-    for (word, places) in NAMED {
+    for (word, outside, places) in NAMED {
         let mut inside = Vec::new();
         for function in own {
             let lines = mentions(&function.body, word);
@@ -163,9 +198,10 @@ fn named(sources: &Sources, own: &[&Function], found: &mut Vec<Finding>) {
             }
             inside.extend(lines);
         }
-        if all(word).len() != inside.len() + 1 {
+        if all(word).len() != inside.len() + outside {
             let line = all(word).into_iter().filter(|line| !inside.contains(line)).last().unwrap_or(1);
-            found.push(Finding::new(FILE, line, format!("outside of all functions `{word}` is to be named once")));
+            let what = format!("outside of all functions' bodies `{word}` is to be named {outside} times");
+            found.push(Finding::new(FILE, line, what));
         }
     }
     let others = CALLS.iter().filter_map(|(_, path, _)| path.strip_prefix("session::stream::"));

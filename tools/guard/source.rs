@@ -1,5 +1,7 @@
 //! The sources: every file of crates/*/src, its functions, the types that it declares and what it brings in by `use`.
 
+use crate::brought::{brought, Brought};
+use crate::forms;
 use crate::tokens::{begins, each_list, read, split, Tree};
 use std::collections::BTreeMap;
 use std::fs;
@@ -54,7 +56,9 @@ impl Function {
 
     /// Whether it is this one, as `deque Deque::close`.
     pub fn is(&self, wanted: &str) -> bool {
-        wanted == format!("{} {}", self.krate, self.title())
+        let (krate, title) = wanted.split_once(' ').unwrap_or_default();
+        let (owner, name) = title.split_once("::").map_or((None, title), |(owner, name)| (Some(owner), name));
+        self.krate == krate && self.name == name && self.owner.as_deref() == owner
     }
 
     pub fn finding(&self, line: usize, what: impl Into<String>) -> Finding {
@@ -67,8 +71,8 @@ pub struct File {
     pub krate: String,
     pub path: String,
     pub trees: Vec<Tree>,
-    /// The `use` items, each from its first word on.
-    pub uses: Vec<Vec<Tree>>,
+    /// What it brings in by `use`.
+    pub uses: Vec<Brought>,
 }
 
 #[derive(Debug, Default)]
@@ -126,6 +130,9 @@ impl Sources {
                     "this cannot be read: brackets do not match, or a string is of a kind that is not known",
                 )
             })?;
+            if let Some((line, what)) = forms::in_items(&trees, '{') {
+                return Err(Finding::new(path, line, what));
+            }
             let krate = path.split('/').nth(1).unwrap_or_default().to_string();
             let mut file = File { krate, path: path.clone(), trees: Vec::new(), uses: Vec::new() };
             sources.items(&trees, None, &mut file)?;
@@ -144,14 +151,17 @@ impl Sources {
             while trees[at..].first().is_some_and(is_before_item) {
                 at += 1;
             }
-            let unknown = || Finding::new(&file.path, trees[start].line, "no item that this guard knows begins here");
-            let keyword = trees.get(at).and_then(Tree::word).ok_or_else(unknown)?;
+            at += usize::from(begins(&trees[at..], "const fn"));
+            let line = trees[start].line;
+            let unknown = || Finding::new(&file.path, line, "no item that this guard knows begins here");
+            let known = trees.get(at).and_then(Tree::word).zip(trees.get(at + 1));
+            let (keyword, next) = known.ok_or_else(unknown)?;
             at = match keyword {
-                "fn" => self.function(trees, start, at, owner, file).ok_or_else(unknown)?,
+                "fn" => self.function(trees, start, at, owner, file)?,
                 "impl" | "mod" => {
                     let end = end_of_item(trees, at).ok_or_else(unknown)?;
                     if let Some(inner) = trees[end].group('{') {
-                        let name = trees[at + 1].word().filter(|_| keyword == "impl");
+                        let name = next.word().filter(|_| keyword == "impl");
                         self.items(inner, name.or(owner), file)?;
                     }
                     end + 1
@@ -159,10 +169,10 @@ impl Sources {
                 "struct" | "enum" | "const" | "type" | "use" => {
                     let end = end_of_item(trees, at).ok_or_else(unknown)?;
                     if keyword == "struct" || keyword == "enum" {
-                        self.types.extend(trees[at + 1].word().map(str::to_string));
+                        self.types.extend(next.word().map(str::to_string));
                     }
                     if keyword == "use" {
-                        file.uses.push(trees[at + 1..end].to_vec());
+                        brought(&trees[at + 1..end], &[], &mut file.uses);
                     }
                     end + 1
                 }
@@ -173,12 +183,25 @@ impl Sources {
     }
 
     /// The function whose `fn` stands at `at`. Returned is where the next item begins.
-    fn function(&mut self, trees: &[Tree], start: usize, at: usize, owner: Option<&str>, file: &File) -> Option<usize> {
-        let name = trees[at + 1].word()?.to_string();
-        let params = at + trees[at..].iter().position(|tree| tree.group('(').is_some())?;
-        let body = params + trees[params..].iter().position(|tree| tree.group('{').is_some())?;
-        if trees[params..body].iter().any(|tree| tree.is_sign(";") || tree.is_word("fn")) {
-            return None;
+    fn function(
+        &mut self,
+        trees: &[Tree],
+        start: usize,
+        at: usize,
+        owner: Option<&str>,
+        file: &File,
+    ) -> Result<usize, Finding> {
+        let unknown = || Finding::new(&file.path, trees[at].line, "a function that this guard cannot read");
+        let place = |from: usize, open| trees[from..].iter().position(|tree| tree.group(open).is_some());
+        let name = trees[at + 1].word().ok_or_else(unknown)?.to_string();
+        let params = at + place(at, '(').ok_or_else(unknown)?;
+        let end = params + place(params, '{').ok_or_else(unknown)?;
+        if trees[at + 1..end].iter().any(|tree| tree.is_sign(";") || tree.is_word("fn")) {
+            return Err(unknown());
+        }
+        let body = trees[end].group('{').unwrap_or_default().to_vec();
+        if let Some((line, what)) = forms::in_body(&body) {
+            return Err(Finding::new(&file.path, line, what));
         }
         let open = match trees[start..at].iter().position(|tree| tree.is_word("pub")) {
             None => Open::Module,
@@ -192,10 +215,10 @@ impl Sources {
             owner: owner.map(str::to_string),
             name,
             open,
-            params: split(trees[params].group('(')?, ",").into_iter().filter_map(param).collect(),
-            body: trees[body].group('{')?.to_vec(),
+            params: split(trees[params].group('(').unwrap_or_default(), ",").into_iter().filter_map(param).collect(),
+            body,
         });
-        Some(body + 1)
+        Ok(end + 1)
     }
 
     /// Names that are declared to stand for `i32`, also through another such name.
@@ -241,11 +264,7 @@ fn path_end(list: &[Tree]) -> Option<&str> {
 
 /// What may stand before an item's keyword.
 fn is_before_item(tree: &Tree) -> bool {
-    let words = ["pub", "extern", "0"];
-    tree.is_sign("#")
-        || tree.group('[').is_some()
-        || tree.group('(').is_some()
-        || tree.word().is_some_and(|w| words.contains(&w))
+    tree.group('(').is_some() || tree.word().is_some_and(|word| ["pub", "extern", "0"].contains(&word))
 }
 
 /// The place of the sign or of the braces with which an item ends.

@@ -1,5 +1,7 @@
-//! A source as a tree of tokens: words, signs and bracketed groups, each with its line. Comments, strings, contracts
-//! and `ghost use` items are left out.
+//! A source as a tree of tokens: words, signs and bracketed groups, each with its line. Comments, strings and what is
+//! no code (`erased.rs`) are left out.
+
+use crate::erased;
 
 #[derive(Clone, Debug, PartialEq)]
 pub enum Kind {
@@ -65,7 +67,7 @@ impl Tree {
 pub fn read(text: &str) -> Result<Vec<Tree>, usize> {
     let mut reader = Reader { chars: text.chars().collect(), at: 0, line: 1 };
     let trees = reader.trees(None)?;
-    Ok(without_contracts(trees))
+    Ok(erased::code(&trees))
 }
 
 struct Reader {
@@ -200,31 +202,6 @@ impl Reader {
         }
         Kind::Sign(sign)
     }
-}
-
-/// Without `ghost use ..;`, and without the clauses between a function's `fn` and its body: `requires { .. }`,
-/// `ensures NAME { .. }` and `ghost { .. }`. In a body these are words like any other.
-fn without_contracts(trees: Vec<Tree>) -> Vec<Tree> {
-    let mut out = Vec::new();
-    let mut rest = trees.into_iter().peekable();
-    let mut before_body = false;
-    while let Some(tree) = rest.next() {
-        let clause = ["requires", "ensures", "ghost"].into_iter().any(|word| tree.is_word(word));
-        if before_body && clause {
-            rest.find(|tree| tree.group('{').is_some());
-        } else if tree.is_word("ghost") && rest.peek().is_some_and(|next| next.is_word("use")) {
-            rest.find(|tree| tree.is_sign(";"));
-        } else {
-            before_body = tree.is_word("fn") || (before_body && tree.group('{').is_none());
-            let line = tree.line;
-            let kind = match tree.kind {
-                Kind::Group(open, inner) => Kind::Group(open, without_contracts(inner)),
-                kind => kind,
-            };
-            out.push(Tree { line, kind });
-        }
-    }
-    out
 }
 
 /// The parts of a list between signs of this kind; a last part with nothing in it is none.

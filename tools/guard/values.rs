@@ -1,9 +1,9 @@
 //! Rule `values`: what is read from a table of values (`follow.rs`) is compared by `compare` alone. It may be returned,
 //! stored in a table of values or in the answers, and kept in a field, where it is followed. It may not stand beside a
-//! comparison sign, in `deque` and `engine` beside an arithmetic operator, decide an `if`, a `match` or a loop, be an
-//! index, or be handed to any function but `compare` and those of `HANDED`. A table keeps its name, and of its methods
-//! `len` alone is called; so it is with the answer places (`answers.rs`). For the extremes of the open partial, which
-//! are compared with readings, see `open_partial.rs`.
+//! comparison sign, in `deque`, `board` and `engine` beside an arithmetic operator, decide an `if`, a `match`, a
+//! `let .. else` or a loop, be an index, or be handed to a macro or to any function but `compare` and those of
+//! `HANDED`. A table keeps its name, and of its methods `len` alone is called; so it is with the answer places
+//! (`answers.rs`). For the extremes of the open partial, which are compared with readings, see `open_partial.rs`.
 
 use crate::follow::{is_range, Facts, View, ANSWERS, COMPARE, HANDED, TABLES, ZEROED};
 use crate::shape::{arguments, assignments, block_after, is_keyword, operands, Assignment, COMPARISONS};
@@ -12,7 +12,7 @@ use crate::tokens::{begins, each_list, split, Tree};
 use crate::{answers, open_partial};
 
 /// The crates that come with the language; their functions are not looked at, and no table is lent to them.
-const KIT: [&str; 6] = ["std", "check", "libc", "io", "os", "bytes"];
+const KIT: [&str; 7] = ["std", "core", "check", "libc", "io", "os", "bytes"];
 
 /// Arithmetic and bit operators, `&` before a place being taken for one, and the crates in which no value stands beside
 /// one.
@@ -79,6 +79,7 @@ impl View<'_> {
                 self.report_table(list, at, &mut say);
                 self.report_method(list, at, &mut say);
                 self.report_call(list, at, &mut say);
+                self.report_macro(list, at, &mut say);
                 self.report_index(list, at, &mut say);
             }
             for one in assignments(self.sources, list) {
@@ -88,7 +89,7 @@ impl View<'_> {
         });
     }
 
-    /// A comparison, arithmetic, a condition, or what a `match` or a `for` goes by.
+    /// A comparison, arithmetic, a condition, or what a `match`, a `for` or a `let .. else` goes by.
     fn report_decision(&self, list: &[Tree], at: usize, say: &mut dyn FnMut(String)) {
         let beside = |sign: &&str| COMPARISONS.contains(sign) || self.is_arithmetic(sign);
         if let Some(sign) = list[at].sign().filter(beside) {
@@ -100,6 +101,12 @@ impl View<'_> {
             let end = block_after(self.sources, list, at).unwrap_or(list.len());
             if self.has_value(&list[at + 1..end]) {
                 say(format!("a value of a table decides after `{word}`"));
+            }
+        }
+        if list[at].is_word("else") && at > 0 && list[at - 1].group('{').is_none() {
+            let start = list[..at].iter().rposition(|tree| tree.is_word("let")).unwrap_or(0);
+            if self.has_value(&list[start..at]) {
+                say("a value of a table decides after `let`".to_string());
             }
         }
     }
@@ -166,12 +173,23 @@ impl View<'_> {
         }
     }
 
-    /// A method of a value, which may compare it with something.
+    /// What is written by a macro, which is not seen.
+    fn report_macro(&self, list: &[Tree], at: usize, say: &mut dyn FnMut(String)) {
+        let Some(name) = list[at].word().filter(|word| !is_keyword(word)) else { return };
+        let given = list.get(at + 2).and_then(Tree::inner).filter(|_| list[at + 1].is_sign("!"));
+        if given.is_some_and(|given| self.has_value(given) || self.has_table(given)) {
+            say(format!("a value of a table, or one as a whole, is handed to the macro `{name}`"));
+        }
+    }
+
+    /// A method of a value, or of something in brackets that holds one, which may compare it with something.
     fn report_method(&self, list: &[Tree], at: usize, say: &mut dyn FnMut(String)) {
         let is_index = |tree: &&Tree| tree.group('[').is_some() || tree.group('(').is_some();
         let after = &list[at + 1 + list[at + 1..].iter().take_while(is_index).count()..];
         let calls = begins(after, ".") && after.get(2).is_some_and(|next| next.group('(').is_some());
-        if calls && self.reads(list, at) {
+        let follows = at > 0 && (is_index(&&list[at - 1]) || arguments(list, at - 1).is_some());
+        let holds = list[at].inner().filter(|_| !follows).is_some_and(|inner| self.has_value(inner));
+        if calls && (holds || self.reads(list, at)) {
             say("a method of a value of a table is called".to_string());
         }
     }
