@@ -11,7 +11,6 @@ use lib.ListN.{length, take, length-take, length-map}
 use Rattle.window.specs.Calls.{Outcome}
 use Rattle.window.specs.Model as model
 use Rattle.window.proofs.Lists.{and_left, and_right}
-use Rattle.engine.specs.declared.state.State.{State}
 use Rattle.registry.specs.Records.{ListKept}
 use Rattle.registry.proofs.Laying.{kept_same}
 use Rattle.board.specs.Tables.{Tables, TablesKept}

@@ -28,7 +28,7 @@ use Rattle.session.specs.Meaning.{answer_text, answer_texts, answer_at, printed}
 
 -- a place of an answer table, as it is read
 pub place_read : (t : List ℤ) (j : ℕ) → mag (get_or t j (pos 0)) < 2 ^ hbits w64 → to_z w64 (of_z w64 (get_or t j (pos 0))) ≡ get_or t j (pos 0)
-place_read t j h = to_z-of_z (sfits_of h)
+place_read t j h = to_z-of_z {w = w64} (sfits_of h)
 
 -- the line of an answer whose four places were read
 pub answer-printed : (n i : ℕ) (t : List ℤ) {o o' : List ℕ} {a r number kind count : ℕ} {value : ℤ}
