@@ -1,11 +1,11 @@
 -- From a call of the engine on what numbers are read as to what is promised of the numbers.
 -- Assumes nothing.
-use Prim.Native.Nat.{ℕ, zero, suc, ◌≤◌, ◌<◌}
+use Prim.Native.Nat.{ℕ, zero, suc, ◌≤◌}
 use mathlib.Core.Path.{◌≡◌, refl, sym, ap, ◌∙◌, subst}
-use mathlib.Core.Bool.{Bool, true, false, ◌&&◌}
+use mathlib.Core.Bool.{Bool, false, ◌&&◌}
 use mathlib.Core.List.{List, [], ◌∷◌}
 use native.Mathlib.Omega.{arith}
-use borrow.Author.Tests.{le-leb, leb-true}
+use borrow.Author.Tests.{le-leb}
 use lib.IntN.{ℤ}
 use lib.ListN.{length, take}
 use Rattle.window.specs.declared.refusal.Refusal.{Refusal}
@@ -18,7 +18,6 @@ use Rattle.engine.specs.declared.state.State.{State}
 use Rattle.engine.specs.declared.calls.Reply.{Reply}
 use Rattle.engine.specs.declared.calls.ReadingReply.{ReadingReply}
 use Rattle.engine.specs.declared.calls.TotalsReply.{TotalsReply}
-use Rattle.engine.specs.declared.calls.TotalsReply.TheVariants as totals
 use Rattle.engine.specs.Answers.{answers_in}
 use Rattle.board.specs.Tables.{Tables, KeptBeyond}
 use Rattle.engine.specs.Outcomes as engine
@@ -70,30 +69,7 @@ totals-refused : (k : ℕ) (four : List ℕ) → 1 ≤ k → totals_code_outcome
 totals-refused zero four l = absurd (omega arith)
 totals-refused (suc k) four l = refl
 
--- ---- there is no room for the numbers of a state
-
--- a call is refused before anything is read
-pub no_room : (promise : Promise) (w ns : List ℕ) (t : Tables) → length w < state_numbers → OnNumbers promise (slices w ns t) (refused 1) (slices w ns t)
-no_room promise w ns t l =
-    record {
-      short = λ f. refl;
-      promised = λ f. absurd (omega (arith, leb-true state_numbers (length w) f));
-      unchanged = λ k i. refl;
-      state = kept-all w;
-      queries = list_all ns;
-    }
-
--- a reading
-pub no_room-reading : (v : ℤ) (places : List ℤ) (given : ℕ) (w ns : List ℕ) (t : Tables) → length w < state_numbers
-    → ReadingOnNumbers v places places given given (slices w ns t) (refused 1) (slices w ns t)
-no_room-reading v places given w ns t l =
-    record { on_numbers = no_room (ReadingEnsures v places places) w ns t l; places = refl; unanswered = λ k i. refl; alone = refl }
-
--- totals
-pub no_room-totals : (four w ns : List ℕ) (t : Tables) → length w < state_numbers → TotalsOnNumbers four four (slices w ns t) (refused 1)
-no_room-totals four w ns t l = record { on_numbers = no_room (Ensures Calls.totals) w ns t l; untold = λ k i. refl }
-
--- ---- there is room
+-- ---- there is room; where there is none the check finds the promise by itself
 
 module _ (promise : Promise) (steady : Steady promise) (w ns ns' : List ℕ) (t t' : Tables) (room : state_numbers ≤ length w) where
   -- check 1 on the query list and the tables
