@@ -78,10 +78,6 @@ carries_as {xs} {ys} {h} {h'} e p = subst (λ (l : List ℕ). Carries l h h') e 
 pub carries_nothing : (h : Held) → Carries [] h h
 carries_nothing h = record { on = λ t input p. reached_as (sym (append-nil input)) p }
 
--- no byte of a chunk
-pub carries-none : (chunk : List ℕ) (h : Held) → Carries (slice 0 0 chunk) h h
-carries-none chunk h = carries_as (sym (slice_empty 0 chunk)) (carries_nothing h)
-
 -- the bytes of a chunk that were handed over, and those taken next
 pub carries-next : {chunk old new : List ℕ} {from to filled : ℕ} {h₀ h h' : Held} → from ≤ length chunk → Carries (slice 0 from chunk) h₀ h → FeedEnsures chunk from h old h' to new filled
     → Carries (slice 0 to chunk) h₀ h'

@@ -11,11 +11,8 @@ use borrow.Author.Tests.{eqb-true}
 use lib.IntN.{ℤ}
 use lib.ListN.{length, get_or, take, drop, length-drop}
 use lib.Seq.{slice, slice_empty, take-suc, length-take-le, drop-append-le, get_or-drop}
-use Rattle.window.specs.Calls.{Outcome}
-use Rattle.window.specs.Model.{count}
 use Rattle.board.specs.Tables.{Tables}
-use Rattle.engine.specs.Machine.{Machine, machine, Represents}
-use Rattle.engine.specs.Outcomes.{reading_outcome}
+use Rattle.engine.specs.Machine.{machine}
 use Rattle.board.proofs.Lending.{tables-same, tables_then}
 use Rattle.registry.proofs.Laying.{kept_same, kept_then}
 use Rattle.parse.specs.declared.line.Line.{Line}
@@ -24,46 +21,14 @@ use Rattle.parse.specs.Lines.{parsed}
 use Rattle.parse.specs.Kept.{kept_length, kept_line}
 use Rattle.parse.proofs.Slices.{slice_is, slice_then}
 use Rattle.parse.proofs.Keeping.{parsed-kept, take-joined}
-use Rattle.print.specs.Put.{Put}
-use Rattle.print.proofs.Putting.{put-none, put_then, put_as, puts_none, puts_then}
-use Rattle.session.specs.declared.call.Called.{Called}
+use Rattle.print.proofs.Putting.{put-none, put_then, puts_none, puts_then}
 use Rattle.session.specs.declared.stream.Session.{Session}
 use Rattle.session.specs.declared.stream.Taken.{Taken}
 use Rattle.session.specs.declared.stream.Ended.{Ended}
-use Rattle.session.specs.Meaning.{answer_table, line_step, printed, Position, line_reported, line_room}
+use Rattle.session.specs.Meaning.{answer_table}
 use Rattle.session.specs.Stream.{Running, Streamed, line_ended, line_extended, fed, following, fed_all}
-use Rattle.session.specs.Promises.{CallEnsures, Held, held, HeldKept, new_line, keeping, Shown, Says, line_limit, LineEnsures, Streams, RestEnsures}
+use Rattle.session.specs.Promises.{Held, held, HeldKept, keeping, Shown, Says, line_limit, LineEnsures, Streams, RestEnsures}
 use Rattle.session.proofs.Streaming.{fed-append}
-
--- ---- a line ends
-
-module _ (asked : Line) (m : Machine) (lines : ℕ) (called : Called) (places : List ℤ) (list : List ℕ) (t : Tables) (old : List ℕ) (at : ℕ) (new : List ℕ) (next : ℕ)
-    (calls : CallEnsures asked m called.outcome places (machine called.state list t)) where
-  pub line-ended : {n : ℕ} {e : Ended} → n ≡ called.state.count → e ≡ record { session = new_line called.state (lines + 1); at = next }
-      → (Put old at (printed n (lines + 1) (reading_outcome called.outcome places)) new next) × (next ≤ at + line_room)
-      → LineEnsures asked m lines old at e.session (machine e.session.state list t) new e.at
-  line-ended {n} en is (put, room) =
-      subst (λ (x : Ended). LineEnsures asked m lines old at x.session (machine x.session.state list t) new x.at) (sym is)
-      (record {
-        represents = calls.represents;
-        text = text;
-        unchanged = λ s rep k q. calls.unchanged k (calls.agrees s rep ∙ q);
-        after = refl;
-        room = room;
-        puts = record { bytes = printed n (lines + 1) o; put = put };
-        list_kept = calls.list_kept;
-        kept = calls.kept;
-      })
-    where
-      o : Outcome
-      o = reading_outcome called.outcome places
-
-      text : (p : Position) → Represents p.state m → lines ≡ p.lines → Put old at (line_reported p asked).text new next
-      text p rep same =
-          let reads : ℕ = count (line_step p.state asked).state in
-          put_as
-          (ap (λ (k : ℕ). printed k (lines + 1) o) (en ∙ (calls.represents p.state rep).state.count) ∙ ap (λ (k : ℕ). printed reads (k + 1) o) same
-          ∙ ap (printed reads (p.lines + 1)) (calls.agrees p.state rep)) put
 
 -- ---- bytes without an end of line
 

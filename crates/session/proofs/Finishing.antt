@@ -28,7 +28,7 @@ use Rattle.print.proofs.Putting.{put-none, put_then, put_as, puts_none, puts_the
 use Rattle.session.specs.declared.stream.Session.{Session}
 use Rattle.session.specs.Meaning.{Reported, line_reported, finished, totals_text, line_room}
 use Rattle.session.specs.Stream.{Running, begun, ended}
-use Rattle.session.specs.Promises.{Held, held, session_machine, RefusesEnsures, new_line, Shown, line_limit, has_last, goes_on, LineEnsures, lent, lent_of, OpenEnsures, finish_room, FinishEnsures}
+use Rattle.session.specs.Promises.{Held, held, session_machine, RefusesEnsures, new_line, Shown, line_limit, has_last, goes_on, LineEnsures, lent, OpenEnsures, finish_room, FinishEnsures}
 
 -- ---- the first session
 
@@ -180,17 +180,3 @@ finishes h m old mid new next filled told passed last room size (text, end) =
     says r sh few false e =
         let none : (m ≡ session_machine h) × Put old 0 [] mid next = last.none r sh e in
         put_as (sym (ended_by r false e)) (put_then none.1 (put_as (totals_are r.position.state m (subst (Represents r.position.state) (sym none.0) sh.represents)) text))
-
--- nothing is printed: the output has no room, or no session is shown
-pub no_finish : (h : Held) (old : List ℕ) → ((r : Running) → Shown r h → finish_room ≤ length old → ⊥) → FinishEnsures h old (lent_of h) old 0
-no_finish h old never =
-    record {
-      says = λ r sh few long. absurd (never r sh long);
-      short = λ k. (refl, (refl, refl));
-      refuses = λ e. (refl, (refl, refl));
-      puts = puts_none old 0;
-      fits = omega arith;
-      list_kept = kept_same h.list;
-      kept = tables-same h.tables;
-      untouched = λ r sh e. refl;
-    }

@@ -2,7 +2,6 @@
 -- model is represented and there is room it never is so.
 -- Assumes nothing.
 use Prim.Native.Nat.{ℕ, ◌+◌, ◌≤◌, ◌<◌}
-use native.Mathlib.Omega.{arith}
 use mathlib.Core.Path.{◌≡◌, refl, sym, ap, ◌∙◌}
 use mathlib.Core.Bool.{Bool, true, false, not, ◌||◌, true≢false}
 use mathlib.Core.List.{List, [], ◌∷◌}
@@ -23,14 +22,9 @@ use Rattle.engine.specs.Promises.{Ensures, list_damaged}
 use Rattle.parse.specs.Kept.{kept_length}
 use Rattle.session.specs.Meaning.{line_room}
 use Rattle.session.specs.Promises.{Held, session_machine, refuses_all, RefusesEnsures, line_limit, TakenEnsures, FeedEnsures}
-use Rattle.session.proofs.Feeding.{streams-none}
 
 module _ (m : Machine) (room : ℕ) where
   -- ---- whether there is room for a line
-
-  -- there is none
-  pub no_line-room : room < kept_length → RefusesEnsures m room true
-  no_line-room h = record { always = λ q. refl; never = λ s rep l. absurd (omega (arith, h, l)) }
 
   -- there is where not all is refused
   pub line-room : {refuses : Bool} → RefusesEnsures m room refuses → refuses ≡ false → kept_length ≤ room
@@ -72,15 +66,6 @@ module _ (m : Machine) (room : ℕ) where
 -- ---- a chunk
 
 module _ {chunk : List ℕ} {from : ℕ} {h : Held} {old : List ℕ} {refuses : Bool} (told : RefusesEnsures (session_machine h) (length h.line) refuses) where
-  -- nothing is taken
-  pub not-fed : refuses ≡ true → FeedEnsures chunk from h old h from old 0
-  not-fed e =
-      record {
-        taken = record { streams = streams-none chunk from h old 0; onward = omega arith; inside = λ l. l; beyond = λ l. refl; few = λ l. l; fits = omega arith; still = λ s. (refl, (refl, refl)) };
-        stops = λ r sh. absurd (true≢false (sym e ∙ told.never r.position.state sh.represents sh.room));
-        refuses = λ q. refl;
-      }
-
   -- one line after the other
   pub fed-lines : {h' : Held} {to filled : ℕ} {new : List ℕ} → refuses ≡ false → TakenEnsures chunk from h old h' to new filled → (to < length chunk → filled + line_room ≤ length old → line_limit ≤ h'.session.lines)
       → FeedEnsures chunk from h old h' to new filled
