@@ -4,13 +4,13 @@ use Prim.Native.Nat.{ℕ, zero, suc, ◌+◌, ◌<◌, ◌≤◌}
 use mathlib.Core.Path.{◌≡◌, refl, sym, subst, ◌∙◌}
 use mathlib.Core.Bool.{Bool, true, false, cond, false≢true}
 use native.Mathlib.Omega.{arith}
-use borrow.Author.Tests.{ltb-true, leb-true, leb-false}
+use borrow.Author.Tests.{leb-true}
 use mathlib.Core.List.{List, [], ◌∷◌, ◌++◌}
 use lib.Dec.{leb}
 use lib.IntN.{ℤ, pos, negsuc}
 use lib.Signed.{lt_z}
-use lib.ListN.{length, take, length-append, length-take}
-use types.Run.{OneOf, miss}
+use lib.ListN.{length, length-append, length-take}
+use types.Run.{OneOf, hit, miss}
 use denote.Enum.Declared.{tag_of}
 use Rattle.io.specs.Counts.{clamp_len}
 use Rattle.session.specs.Promises.{Held, line_limit, Lent, lent_of}
@@ -22,27 +22,30 @@ use Rattle.pchelodar.specs.declared.Progress.TheVariants as progress
 use Rattle.pchelodar.specs.contracts.Progress.{the_type}
 use Rattle.pchelodar.specs.Promises.{Told, after_write, after_feed, ChunkFed, Read, read_of, size, brought, Failed, FoundEnd, AfterRead, Intake, none, next, ReadsFed, SomeFed, Heard, AllRead, ReachedReads, Handed, after_reads, Concluded, WholeRun}
 
+-- ---- the other arm of a match: the cases that come to it, by their numbers
+
+-- after one on Onward
+pub past_onward : (p : Progress) → (p ≡ progress.Onward → ⊥) → OneOf (1 ∷ 2 ∷ 3 ∷ 4 ∷ []) (tag_of the_type p)
+past_onward progress.Onward other = absurd (other refl)
+past_onward progress.InputEnded other = hit (1 ∷ 2 ∷ 3 ∷ 4 ∷ []) 1 tt
+past_onward progress.ReadFailed other = hit (1 ∷ 2 ∷ 3 ∷ 4 ∷ []) 2 tt
+past_onward progress.WriteFailed other = hit (1 ∷ 2 ∷ 3 ∷ 4 ∷ []) 3 tt
+past_onward progress.TooLong other = hit (1 ∷ 2 ∷ 3 ∷ 4 ∷ []) 4 tt
+
+-- after one on InputEnded
+pub past_ended : (p : Progress) → (p ≡ progress.InputEnded → ⊥) → OneOf (0 ∷ 2 ∷ 3 ∷ 4 ∷ []) (tag_of the_type p)
+past_ended progress.Onward other = hit (0 ∷ 2 ∷ 3 ∷ 4 ∷ []) 0 tt
+past_ended progress.InputEnded other = absurd (other refl)
+past_ended progress.ReadFailed other = hit (0 ∷ 2 ∷ 3 ∷ 4 ∷ []) 2 tt
+past_ended progress.WriteFailed other = hit (0 ∷ 2 ∷ 3 ∷ 4 ∷ []) 3 tt
+past_ended progress.TooLong other = hit (0 ∷ 2 ∷ 3 ∷ 4 ∷ []) 4 tt
+
 -- ---- what a write said
 
 -- all bytes of a chunk
 pub chunk_fed : {chunk : List ℕ} {h h' : Held} → Carries chunk h h' → ChunkFed chunk h h' progress.Onward
 unfolding ChunkFed
 chunk_fed f = f
-
--- a run that goes on after a write took a byte
-pub went_on : (said : Bool) (from to : ℕ) (p : Progress) → p ≡ after_write said (after_feed from to) → p ≡ progress.Onward → from < to
-went_on said from to p e o = go said (leb to from) refl (sym o ∙ e)
-  where
-    go : (s b : Bool) → leb to from ≡ b → progress.Onward ≡ after_write s (cond b progress.TooLong progress.Onward) → from < to
-    go true true l q = other q
-      where
-        other : progress.Onward ≡ progress.TooLong → from < to
-        other d = absurd (false≢true cc)
-    go true false l q = omega (arith, leb-false to from l)
-    go false b l q = other q
-      where
-        other : progress.Onward ≡ progress.WriteFailed → from < to
-        other d = absurd (false≢true cc)
 
 -- one that does not go on: a write failed, or the limit was reached. The cases by their numbers
 pub stopped : (chunk : List ℕ) (said : Bool) (from to : ℕ) {h h' : Held} (p : Progress) → p ≡ after_write said (after_feed from to) → OneOf (1 ∷ 2 ∷ 3 ∷ 4 ∷ []) (tag_of the_type p)
@@ -66,34 +69,6 @@ told_feed from to = go (leb to from)
     go : (b : Bool) → Told (cond b progress.TooLong progress.Onward) true
     go true = refl
     go false = refl
-
--- ---- what a read returned
-
--- where it failed it brought nothing
-failed-none : (got : ℤ) (n : ℕ) → lt_z got (pos 0) ≡ true → clamp_len got n ≡ 0
-failed-none (pos k) n e = absurd (omega (arith, ltb-true k 0 e))
-failed-none (negsuc k) n e = refl
-
-pub read-failed : (got : ℤ) (buffer : List ℕ) (h : Held) → lt_z got (pos 0) ≡ true → AfterRead (read_of got buffer) h h progress.ReadFailed
-read-failed got buffer h e =
-    record {
-      failed = λ f. (refl, refl);
-      ended = λ f. absurd (false≢true (sym f.0 ∙ e));
-      some = λ l. absurd (omega (arith, failed-none got (length buffer) e, l));
-    }
-
-pub read-ended : (got : ℤ) (buffer : List ℕ) (h : Held) → lt_z got (pos 0) ≡ false → clamp_len got (length buffer) ≡ 0 → AfterRead (read_of got buffer) h h progress.InputEnded
-read-ended got buffer h e z =
-    record { failed = λ f. absurd (false≢true (sym e ∙ f)); ended = λ f. (refl, refl); some = λ l. absurd (omega (arith, z, l)) }
-
-pub read_some : (got : ℤ) (buffer : List ℕ) (count : ℕ) {h h' : Held} {p : Progress} → lt_z got (pos 0) ≡ false → count ≡ clamp_len got (length buffer) → 0 < count
-    → ChunkFed (take count buffer) h h' p → AfterRead (read_of got buffer) h h' p
-read_some got buffer count {h} {h'} {p} e c l f =
-    record {
-      failed = λ g. absurd (false≢true (sym e ∙ g));
-      ended = λ g. absurd (omega (arith, g.1, c, l));
-      some = λ _. subst (λ (n : ℕ). ChunkFed (take n buffer) h h' p) c f;
-    }
 
 -- ---- all reads
 

@@ -17,6 +17,7 @@ use window::count::Count;
 
 // The streams that are written, by their numbers.
 const STDOUT_FILENO: i32 = 1;
+
 const STDERR_FILENO: i32 = 2;
 
 // How a run goes on, or ended.
@@ -322,8 +323,8 @@ fn run(
         list, starts, sums, max_starts, max_values, min_starts, min_values,
     );
     let done = read_all(
-        input, opened, list, line, starts, sums, max_starts, max_values, min_starts, min_values, chunk,
-        out,
+        input, opened, list, line, starts, sums, max_starts, max_values, min_starts, min_values,
+        chunk, out,
     );
     conclude(
         done, list, line, starts, sums, max_starts, max_values, min_starts, min_values, out,
