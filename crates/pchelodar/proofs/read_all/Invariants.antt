@@ -1,5 +1,4 @@
--- `read_all`: all that the reads brought so far was fed. The lengths stay. The measure is how many reads are left.
--- Assumes nothing.
+-- `read_all`: all that the reads brought so far was fed. The measure is how many reads are left. Assumes nothing.
 use Rattle.std.proofs.Common.{ℕ, ◌-◌, ◌≤◌}
 use Rattle.board.specs.Tables.{tables}
 use Rattle.session.specs.Promises.{held}
