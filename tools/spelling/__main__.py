@@ -8,7 +8,8 @@ one with a dash only between backticks or in an edit. Rust's own code, strings, 
 would have got its function's name ends in `_lem`.
 
 A file specs/Contracts.antt becomes specs/Promises.antt, since Rattle makes a module `specs.contracts` of its own.
-A second run changes nothing.
+Run on what it wrote it changes nothing; of later texts it would turn names back that were mended by hand
+(docs/PORT.md).
 """
 
 import os
