@@ -12,8 +12,7 @@ pub struct OnCopy {
     pub query: Query,
 }
 
-// The parts, each by a method: the walk of a function that reads a field of so deep a struct goes past the prover's
-// limit of steps.
+// The parts, each by a method.
 impl OnCopy {
     // What the caller is told.
     pub(crate) fn replied(self) -> Reply
