@@ -1,5 +1,6 @@
 pub mod Scanning
 pub mod Digits
 pub mod Reading
+pub mod Landing
 pub mod Slices
 pub mod Keeping

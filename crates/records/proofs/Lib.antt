@@ -1,4 +1,5 @@
 pub mod Editing
-pub mod Leaving
 pub mod Laying
+pub mod Leaving
 pub mod Lists
+pub mod Plain
