@@ -1,4 +1,5 @@
 pub mod Aggregates
 pub mod Tables
+pub mod Lending
 pub mod Ledgers
 pub mod Boards

@@ -23,8 +23,8 @@ fn greater(extreme: Extreme, a: i32, b: i32) -> i32
     ensures { result ≡ greater (order_of extreme) a b }
 {
     match extreme {
-        Extreme::Maximum => { if a <= b { b } else { a } }
-        Extreme::Minimum => { if b <= a { b } else { a } }
+        Extreme::Maximum => a.max(b),
+        Extreme::Minimum => a.min(b),
     }
 }
 
@@ -33,10 +33,9 @@ impl Aggregate {
     pub fn first(start: Count, value: i32) -> Aggregate
         ensures { result ≡ first_reading start value }
     {
-        let wide = value as i64;
         Aggregate {
             start,
-            sum: wide,
+            sum: i64::from(value),
             maximum: value,
             minimum: value,
         }
@@ -51,10 +50,10 @@ impl Aggregate {
         let maximum = greater(Extreme::Maximum, self.maximum, value);
         let minimum = greater(Extreme::Minimum, self.minimum, value);
         Aggregate {
-            start: self.start,
             sum,
             maximum,
             minimum,
+            ..self
         }
     }
 }

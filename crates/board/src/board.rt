@@ -1,18 +1,21 @@
 // The board's state: it goes in by value and comes back, with six lent tables.
-ghost use Rattle.std.specs.Prelude.{◌≡◌, true, ◌<◌, ◌≤◌};
+ghost use Rattle.std.specs.Prelude.{◌≡◌, ◌↔◌, IsTrue, true, ◌<◌, ◌≤◌};
 ghost use Rattle.ints.specs.Sizes.{Small};
 ghost use Rattle.window.specs.Queries.{count_limit};
 ghost use Rattle.deque.specs.Rings.{Fits};
 ghost use Rattle.deque.specs.Sums.{sum_limit};
-ghost use Rattle.board.specs.Tables.{tables, tables_long};
+ghost use Rattle.board.specs.Tables.{tables_long};
+ghost use Rattle.board.specs.Lending.{lent_lists, shared_lists, SameSlices};
 ghost use Rattle.board.specs.Boards.{total_limit, Usable, Within, CloseEnsures, ValueEnsures, HeadsEnsures, EmptyEnsures};
 
 use crate::aggregate::Aggregate;
 use crate::heads::Heads;
+use crate::tables::{LentTables, SharedTables};
 use deque::compare::Extreme;
 use deque::extremes::Deque;
 use deque::sums::Sums;
-use window::count::{Count, wide};
+use window::count::Count;
+use window::query::Kind;
 
 #[derive(Clone, Copy)]
 pub struct Board {
@@ -28,24 +31,16 @@ pub struct Board {
 
 // Whether a total of comparisons can be that of so many closed partials: at most 2 P - 2, and 0 where P is 0.
 fn total_fits(total: u64, closed: Count) -> bool
-    ensures { (result ≡ true → total ≤ total_limit closed) × (total ≤ total_limit closed → result ≡ true) }
+    ensures { IsTrue result ↔ total ≤ total_limit closed }
 {
-    if closed == 0 {
-        return total == 0;
-    }
-    total <= 2 * wide(closed) - 2
+    total <= (2 * u64::from(closed)).saturating_sub(2)
 }
 
 // Whether a deque that was handed in can be used, with so many partials closed.
 fn deque_fits(deque: Deque, closed: Count) -> bool
-    ensures { (result ≡ true → Fits deque.ring × (deque.comparisons ≤ total_limit closed))
-        × (Fits deque.ring × (deque.comparisons ≤ total_limit closed) → result ≡ true) }
+    ensures { IsTrue result ↔ Fits deque.ring × (deque.comparisons ≤ total_limit closed) }
 {
-    let ring = deque.ring;
-    if ring.fits() {
-        return total_fits(deque.comparisons, closed);
-    }
-    false
+    deque.ring.fits() && total_fits(deque.comparisons, closed)
 }
 
 impl Board {
@@ -66,99 +61,81 @@ impl Board {
 
     // Whether a board that was handed in can be used.
     pub fn fits(self) -> bool
-        ensures { (result ≡ true → Within self) × (Within self → result ≡ true) }
+        ensures { IsTrue result ↔ Within self }
     {
-        let closed = self.closed;
-        let sums = self.sums;
-        if !sums.fits() {
-            return false;
-        }
-        if !deque_fits(self.maxima, closed) {
-            return false;
-        }
-        deque_fits(self.minima, closed)
+        self.sums.fits()
+            && deque_fits(self.maxima, self.closed)
+            && deque_fits(self.minima, self.closed)
     }
 
     // The aggregate a closes. All three rings are evicted, of what starts before the horizon, before any is written.
     #[tactic(auto, unfolding(crate::specs::Tables::enough))]
-    pub fn close(
-        self,
-        a: Aggregate,
-        horizon: Count,
-        starts: &mut [Count],
-        sums: &mut [i64],
-        max_starts: &mut [Count],
-        max_values: &mut [i32],
-        min_starts: &mut [Count],
-        min_values: &mut [i32],
-    ) -> Board
+    pub fn close(self, a: Aggregate, horizon: Count, tables: &mut LentTables<'_>) -> Board
         requires { Within self × (self.closed < count_limit) × Small sum_limit a.sum
-            × (tables_long (tables starts.old sums.old max_starts.old max_values.old min_starts.old min_values.old) ≡ true) }
-        ensures { CloseEnsures a horizon
-            self (tables starts.old sums.old max_starts.old max_values.old min_starts.old min_values.old)
-            result (tables starts.new sums.new max_starts.new max_values.new min_starts.new min_values.new) }
+            × (tables_long (lent_lists tables.old) ≡ true) }
+        ensures same { SameSlices tables.old tables.new }
+        ensures closed { CloseEnsures a horizon self (lent_lists tables.old) result (lent_lists tables.new) }
     {
-        let partials = self.sums.evict(starts, horizon);
-        let maxima = self.maxima.evict(max_starts, horizon);
-        let minima = self.minima.evict(min_starts, horizon);
+        let before = tables.shared();
+        let partials = self.sums.evict(before.starts, horizon);
+        let maxima = self.maxima.evict(before.max_starts, horizon);
+        let minima = self.minima.evict(before.min_starts, horizon);
         Board {
-            sums: partials.close(starts, sums, a.start, a.sum),
-            maxima: maxima.close(Extreme::Maximum, max_starts, max_values, a.start, a.maximum),
-            minima: minima.close(Extreme::Minimum, min_starts, min_values, a.start, a.minimum),
+            sums: partials.close(tables.starts, tables.sums, a.start, a.sum),
+            maxima: maxima.close(
+                Extreme::Maximum,
+                tables.max_starts,
+                tables.max_values,
+                a.start,
+                a.maximum,
+            ),
+            minima: minima.close(
+                Extreme::Minimum,
+                tables.min_starts,
+                tables.min_values,
+                a.start,
+                a.minimum,
+            ),
             closed: self.closed + 1,
         }
     }
 
-    // The value of a kind (1 sum, 3 maximum, else minimum) over all that is closed and starts at `from` or later; 0
-    // where nothing is.
+    // The value of a kind over all that is closed and starts at `from` or later; 0 where nothing is. A kind that is
+    // neither the sum nor the maximum counts as the minimum: the number is taken as a query has it.
     #[tactic(auto, unfolding(crate::specs::Tables::enough))]
-    pub fn value_from(
-        self,
-        kind: u32,
-        from: Count,
-        starts: &[Count],
-        sums: &[i64],
-        max_starts: &[Count],
-        max_values: &[i32],
-        min_starts: &[Count],
-        min_values: &[i32],
-    ) -> i64
-        requires { Usable self
-            × (tables_long (tables starts.now sums.now max_starts.now max_values.now min_starts.now min_values.now) ≡ true) }
-        ensures { ValueEnsures kind from self (tables starts.now sums.now max_starts.now max_values.now min_starts.now min_values.now) result }
+    pub fn value_from(self, kind: u32, from: Count, tables: SharedTables<'_>) -> i64
+        requires { Usable self × (tables_long (shared_lists tables) ≡ true) }
+        ensures { ValueEnsures kind from self (shared_lists tables.entry) result }
     {
-        if kind == 1 {
-            let partials = self.sums;
-            return partials.sum_from(starts, sums, from);
+        if kind == Kind::Sum as u32 {
+            return self.sums.sum_from(tables.starts, tables.sums, from);
         }
-        if kind == 3 {
-            let maxima = self.maxima;
-            return maxima.extreme_from(max_starts, max_values, from) as i64;
+        if kind == Kind::Maximum as u32 {
+            return i64::from(
+                self.maxima
+                    .extreme_from(tables.max_starts, tables.max_values, from),
+            );
         }
-        let minima = self.minima;
-        minima.extreme_from(min_starts, min_values, from) as i64
+        i64::from(
+            self.minima
+                .extreme_from(tables.min_starts, tables.min_values, from),
+        )
     }
 
     // The values of the three kinds over all that is closed and starts at the horizon or later.
     #[tactic(auto, unfolding(crate::specs::Tables::enough))]
-    pub fn heads(
-        self,
-        horizon: Count,
-        starts: &[Count],
-        sums: &[i64],
-        max_starts: &[Count],
-        max_values: &[i32],
-        min_starts: &[Count],
-        min_values: &[i32],
-    ) -> Heads
-        requires { Usable self
-            × (tables_long (tables starts.now sums.now max_starts.now max_values.now min_starts.now min_values.now) ≡ true) }
-        ensures { HeadsEnsures horizon self (tables starts.now sums.now max_starts.now max_values.now min_starts.now min_values.now) result }
+    pub fn heads(self, horizon: Count, tables: SharedTables<'_>) -> Heads
+        requires { Usable self × (tables_long (shared_lists tables) ≡ true) }
+        ensures { HeadsEnsures horizon self (shared_lists tables.entry) result }
     {
         Heads {
-            sum: self.sums.sum_from(starts, sums, horizon),
-            maximum: self.maxima.extreme_from(max_starts, max_values, horizon),
-            minimum: self.minima.extreme_from(min_starts, min_values, horizon),
+            sum: self.sums.sum_from(tables.starts, tables.sums, horizon),
+            maximum: self
+                .maxima
+                .extreme_from(tables.max_starts, tables.max_values, horizon),
+            minimum: self
+                .minima
+                .extreme_from(tables.min_starts, tables.min_values, horizon),
         }
     }
 }

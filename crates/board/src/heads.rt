@@ -2,6 +2,8 @@
 ghost use Rattle.std.specs.Prelude.{◌≡◌};
 ghost use Rattle.board.specs.Boards.{head_value};
 
+use window::query::Kind;
+
 // The value of each kind over all that is closed and starts at the horizon or later; 0 where nothing is.
 #[derive(Clone, Copy)]
 pub struct Heads {
@@ -11,17 +13,17 @@ pub struct Heads {
 }
 
 impl Heads {
-    // That of a kind: 1 sum, 3 maximum, else minimum.
+    // That of a kind, which counts as the minimum where it is neither the sum nor the maximum.
     #[tactic(auto, unfolding(crate::specs::Boards::head_value))]
     pub fn value(self, kind: u32) -> i64
         ensures { result ≡ head_value kind self }
     {
-        if kind == 1 {
+        if kind == Kind::Sum as u32 {
             return self.sum;
         }
-        if kind == 3 {
-            return self.maximum as i64;
+        if kind == Kind::Maximum as u32 {
+            return i64::from(self.maximum);
         }
-        self.minimum as i64
+        i64::from(self.minimum)
     }
 }

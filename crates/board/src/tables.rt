@@ -1,85 +1,87 @@
 // The lent tables: check 1, and the zeroes of a start.
-ghost use Rattle.std.specs.Prelude.{◌≡◌, true, ◌&&◌, ◌≤◌, leb, pos, length};
+ghost use Rattle.std.specs.Prelude.{◌≡◌, true, ◌≤◌, length};
 ghost use Rattle.deque.specs.Rings.{capacity};
-ghost use Rattle.board.specs.Tables.{tables, tables_long, enough, zeroed, zeroed_tables};
+ghost use Rattle.board.specs.Tables.{tables_long, zeroed, zeroed_tables};
+ghost use Rattle.board.specs.Lending.{lent_lists, shared_lists, SameSlices};
 
 use deque::ring::CAPACITY;
 use window::count::Count;
 
-// Whether a table of this length can be used, and so can the rest.
-fn also_long(len: usize, rest: bool) -> bool
-    ensures { result ≡ (leb capacity len && rest) }
-{
-    if CAPACITY <= len { rest } else { false }
+// The six tables, lent to be written.
+#[derive(Drop)]
+pub struct LentTables<'a> {
+    // Starts and sums of the partials.
+    pub starts: &'a mut [Count],
+    pub sums: &'a mut [i64],
+    // Starts and values for maxima, and for minima.
+    pub max_starts: &'a mut [Count],
+    pub max_values: &'a mut [i32],
+    pub min_starts: &'a mut [Count],
+    pub min_values: &'a mut [i32],
 }
 
-// Check 1, by the lengths of the six tables: whether each has 4,096 places or more.
-#[tactic(auto, unfolding(crate::specs::Tables::enough))]
-pub fn enough(a: usize, b: usize, c: usize, d: usize, e: usize, f: usize) -> bool
-    ensures { result ≡ enough a b c d e f }
-{
-    let last = CAPACITY <= f;
-    let last = also_long(e, last);
-    let last = also_long(d, last);
-    let last = also_long(c, last);
-    let last = also_long(b, last);
-    also_long(a, last)
+// The same, lent to be read.
+#[derive(Clone, Copy)]
+pub struct SharedTables<'a> {
+    pub starts: &'a [Count],
+    pub sums: &'a [i64],
+    pub max_starts: &'a [Count],
+    pub max_values: &'a [i32],
+    pub min_starts: &'a [Count],
+    pub min_values: &'a [i32],
 }
 
-// The first 4,096 places of a table of starts become 0.
-fn zero_starts(table: &mut [Count])
+// The first 4,096 places of a table become this.
+fn overwrite<T: Copy>(table: &mut [T], nought: T)
     requires { capacity ≤ length table.old }
-    ensures { table.new ≡ zeroed 0 table.old }
+    ensures { table.new ≡ zeroed nought table.old }
 {
-    let mut p = 0;
-    while p < CAPACITY {
-        table[p] = 0;
-        p += 1;
+    for p in 0..CAPACITY {
+        table[p] = nought;
     }
 }
 
-// The same of a table of sums.
-fn zero_sums(table: &mut [i64])
-    requires { capacity ≤ length table.old }
-    ensures { table.new ≡ zeroed (pos 0) table.old }
-{
-    let mut p = 0;
-    while p < CAPACITY {
-        table[p] = 0;
-        p += 1;
+impl LentTables<'_> {
+    // The tables, to be read for a while.
+    pub fn shared(&self) -> SharedTables<'_>
+        ensures { shared_lists result ≡ lent_lists self.now }
+    {
+        SharedTables {
+            starts: &*self.starts,
+            sums: &*self.sums,
+            max_starts: &*self.max_starts,
+            max_values: &*self.max_values,
+            min_starts: &*self.min_starts,
+            min_values: &*self.min_values,
+        }
+    }
+
+    // The first 4,096 places of each of the six become 0.
+    pub fn zero(&mut self)
+        requires { tables_long (lent_lists self.old) ≡ true }
+        ensures same { SameSlices self.old self.new }
+        ensures zeroed { lent_lists self.new ≡ zeroed_tables (lent_lists self.old) }
+    {
+        overwrite(self.starts, 0);
+        overwrite(self.sums, 0);
+        overwrite(self.max_starts, 0);
+        overwrite(self.max_values, 0);
+        overwrite(self.min_starts, 0);
+        overwrite(self.min_values, 0);
     }
 }
 
-// The same of a table of values.
-fn zero_values(table: &mut [i32])
-    requires { capacity ≤ length table.old }
-    ensures { table.new ≡ zeroed (pos 0) table.old }
-{
-    let mut p = 0;
-    while p < CAPACITY {
-        table[p] = 0;
-        p += 1;
+impl SharedTables<'_> {
+    // Check 1: whether each of the six has 4,096 places or more.
+    #[tactic(auto, unfolding(crate::specs::Tables::enough))]
+    pub fn are_long(self) -> bool
+        ensures { result ≡ tables_long (shared_lists self.entry) }
+    {
+        CAPACITY <= self.starts.len()
+            && CAPACITY <= self.sums.len()
+            && CAPACITY <= self.max_starts.len()
+            && CAPACITY <= self.max_values.len()
+            && CAPACITY <= self.min_starts.len()
+            && CAPACITY <= self.min_values.len()
     }
-}
-
-// The first 4,096 places of each of the six become 0.
-#[tactic(auto, unfolding(crate::specs::Tables::enough))]
-pub fn zero(
-    starts: &mut [Count],
-    sums: &mut [i64],
-    max_starts: &mut [Count],
-    max_values: &mut [i32],
-    min_starts: &mut [Count],
-    min_values: &mut [i32],
-)
-    requires { tables_long (tables starts.old sums.old max_starts.old max_values.old min_starts.old min_values.old) ≡ true }
-    ensures { tables starts.new sums.new max_starts.new max_values.new min_starts.new min_values.new
-        ≡ zeroed_tables (tables starts.old sums.old max_starts.old max_values.old min_starts.old min_values.old) }
-{
-    zero_starts(starts);
-    zero_sums(sums);
-    zero_starts(max_starts);
-    zero_values(max_values);
-    zero_starts(min_starts);
-    zero_values(min_values);
 }

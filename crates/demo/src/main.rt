@@ -2,61 +2,69 @@
 
 // A demonstration of the five calls: it plays the starred cases and the sample session of document 01 on a query list
 // of 32 records, and prints what each call returns.
-mod lending;
-mod perform;
-mod returns;
+mod caller;
 mod script;
 mod show;
 
-use crate::perform::perform;
-use crate::returns::unchanged;
-use crate::script::{CASES, MOST_CALLS, PLACES, call_of};
+use crate::caller::Caller;
+use crate::script::{Call, PLACES};
+use crate::show::Outcome;
+use board::tables::LentTables;
 use deque::ring::CAPACITY;
 use engine::state::State;
 use records::copy::none;
-use window::count::Count;
+use std::io;
 
-// A blank line before the first call of a list, but not of the first list.
-fn separate(step: usize) {
-    if step == 0 {
-        return;
+// Each call of a list is made, and printed on a line with what it returned.
+fn play<P: Print>(rt: &P, caller: &mut Caller<'_>, calls: &[Call]) -> io::Result<()> {
+    let mut answers = [0; PLACES];
+    for call in calls {
+        let answers = &mut answers[..call.places()];
+        let returned = caller.perform(*call, answers);
+        println!(rt; "{call} -> {}", Outcome { returned, answers })?;
     }
-    if step % MOST_CALLS == 0 {
-        show::line();
-    }
+    Ok(())
 }
 
-// Each list in turn, each call printed on a line with what it returned.
-fn main() {
-    let mut starts: [Count; CAPACITY] = [0; CAPACITY];
-    let mut sums = [0i64; CAPACITY];
-    let mut max_starts: [Count; CAPACITY] = [0; CAPACITY];
-    let mut max_values = [0i32; CAPACITY];
-    let mut min_starts: [Count; CAPACITY] = [0; CAPACITY];
-    let mut min_values = [0i32; CAPACITY];
-    let mut answers = [0i64; PLACES];
-    let mut now = unchanged(State::fresh(), none());
-    let mut step = 0;
-    while step < CASES * MOST_CALLS {
-        separate(step);
-        let call = call_of(step / MOST_CALLS, step % MOST_CALLS);
-        show::call(call);
-        let state = now.state;
-        let list = now.list;
-        now = perform(
-            state,
-            list,
-            call,
-            &mut starts,
-            &mut sums,
-            &mut max_starts,
-            &mut max_values,
-            &mut min_starts,
-            &mut min_values,
-            &mut answers,
-        );
-        let returned = now.returned;
-        show::returned(returned, &answers);
-        step += 1;
+// Each list in turn, with a blank line between two.
+fn play_all<P: Print>(rt: &P) -> io::Result<()> {
+    let tables = LentTables {
+        starts: &mut [0; CAPACITY],
+        sums: &mut [0; CAPACITY],
+        max_starts: &mut [0; CAPACITY],
+        max_values: &mut [0; CAPACITY],
+        min_starts: &mut [0; CAPACITY],
+        min_values: &mut [0; CAPACITY],
+    };
+    let mut caller = Caller {
+        state: State::fresh(),
+        queries: none(),
+        tables,
+    };
+    let full_list = script::full_list();
+    let cases = [
+        script::SLIDING_MAXIMUM,
+        script::SLIDING_SUM,
+        script::SHORT_RANGE,
+        script::LEAST_READING,
+        script::GREATEST_READING,
+        script::LATER_REGISTRATION,
+        script::LAST_WITHDRAWAL,
+        script::FIELD_LIMITS,
+        &full_list,
+        script::SAMPLE_SESSION,
+        script::REFUSED_READING,
+    ];
+    for (i, calls) in cases.iter().enumerate() {
+        if i > 0 {
+            println!(rt)?;
+        }
+        play(rt, &mut caller, calls)?;
     }
+    Ok(())
+}
+
+// A write that fails ends the program: the stored output shows it.
+fn main(rt: HostRuntime) {
+    let _ = play_all(&rt);
 }

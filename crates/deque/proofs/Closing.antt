@@ -6,15 +6,16 @@ use mathlib.Core.Path.{◌≡◌, refl, sym, ap, ap₂, ◌∙◌}
 use mathlib.Core.Bool.{Bool, true, false}
 use mathlib.Core.List.{List, [], ◌∷◌, ◌++◌}
 use native.Mathlib.Omega.{arith}
-use lib.IntN.{ℤ}
-use lib.ListN.{length, set, drop}
+use lib.IntN.{ℤ, pos}
+use lib.ListN.{length, get_or, set, drop}
+use Rattle.std.specs.List.Sorted.{IsNonDecreasing}
 use Rattle.window.specs.Partials.{Entry}
 use Rattle.window.specs.Standing.{at_most, one_if_any, front_of, evicted}
 use Rattle.window.specs.Invariant.{Sorted}
 use Rattle.deque.specs.declared.ring.Ring.{Ring}
-use Rattle.deque.specs.Rings.{capacity, place, listed, view, entry_with, start_at, starts_of, advanced, with_room, grown, count_before, NeverFalls}
+use Rattle.deque.specs.Rings.{capacity, place, listed, view, entry_with, start_at, starts_of, advanced, with_room, grown, count_before}
 use Rattle.deque.specs.Extremes.{entry_at, entries_of, trimmed, trim_comparisons, closed_with}
-use Rattle.deque.proofs.Listed.{listed-none, listed_front, listed_back, length-listed, listed-drop}
+use Rattle.deque.proofs.Listed.{listed-none, listed_front, listed_more, length-listed, listed-drop}
 use Rattle.deque.proofs.Rings.{ring_of, view-advanced, listed-rising, listed-evicted, view_pushed, newest-more}
 use Rattle.deque.proofs.Stores.{entry_other, entry-same}
 use Rattle.deque.proofs.Trimming.{trimmed_snoc_drop, trimmed_snoc_keep}
@@ -22,13 +23,14 @@ use Rattle.deque.proofs.Trimming.{trimmed_snoc_drop, trimmed_snoc_keep}
 -- ---- the loop over the tail
 
 module _ {A : Type 0} (below : A → A → Bool) (y : Entry A) (n : ℕ) (f : ℕ → Entry A) where
-  -- the last of n entries is at most y, and goes
-  pub trim_step : 0 < n → at_most below (f (n - 1)) y ≡ true → trimmed below y (listed n f) ≡ trimmed below y (listed (n - 1) f)
-  trim_step h e = ap (trimmed below y) (listed_back n f h) ∙ trimmed_snoc_drop below y (listed (n - 1) f) (f (n - 1)) e
+  module _ (last : ℕ) (here : n ≡ last + 1) where
+    -- the last of n entries is at most y, and goes
+    pub trim_step : at_most below (f last) y ≡ true → trimmed below y (listed n f) ≡ trimmed below y (listed last f)
+    trim_step e = rw (here, listed_more last f) (trimmed_snoc_drop below y (listed last f) (f last) e)
 
-  -- it is not, and stays with all before it
-  pub trim_stop : 0 < n → at_most below (f (n - 1)) y ≡ false → trimmed below y (listed n f) ≡ listed n f
-  trim_stop h e = ap (trimmed below y) (listed_back n f h) ∙ trimmed_snoc_keep below y (listed (n - 1) f) (f (n - 1)) e ∙ sym (listed_back n f h)
+    -- it is not, and stays with all before it
+    pub trim_stop : at_most below (f last) y ≡ false → trimmed below y (listed n f) ≡ listed n f
+    trim_stop e = rw (here, listed_more last f) (trimmed_snoc_keep below y (listed last f) (f last) e)
 
   -- there is none
   pub trim_none : n ≡ 0 → trimmed below y (listed n f) ≡ listed n f
@@ -43,7 +45,7 @@ one_if_any-length (x ∷ xs) = omega arith
 
 module _ {A : Type 0} (content : ℕ → Entry A) (starts : List ℕ) (same : (p : ℕ) → (content p).start ≡ start_at starts p) (r : Ring) where
   -- where its entries are sorted, their starts never fall
-  pub sorted_view : Sorted (view content r) → NeverFalls (starts_of starts r)
+  pub sorted_view : Sorted (view content r) → IsNonDecreasing (starts_of starts r)
   sorted_view = listed-rising r.len (λ j. content (place r.head j)) (λ j. start_at starts (place r.head j)) (λ j. same (place r.head j))
 
   -- as many entries dropped as start before h: those are left that eviction leaves
@@ -110,3 +112,21 @@ module _ (below : ℤ → ℤ → Bool) (starts : List ℕ) (values : List ℤ) 
     where
       room : Ring
       room = with_room (ring_of r.head left)
+
+module _ (starts : List ℕ) (values : List ℤ) (r : Ring) where
+  -- what evicting leaves
+  pub entries_evicted : (h : ℕ) (kept : Ring) → kept ≡ advanced (count_before h (starts_of starts r)) r → entries_of starts values kept ≡ evicted h (entries_of starts values r)
+  entries_evicted h kept e = evicted-view (entry_at starts values) starts (λ p. refl) r h kept e
+
+  -- what the search found, where the entries are sorted
+  module _ (from first : ℕ) (found : IsNonDecreasing (starts_of starts r) → first ≡ count_before from (starts_of starts r)) (sorted : Sorted (entries_of starts values r)) where
+    found_first : first ≡ count_before from (starts_of starts r)
+    found_first = found (sorted_view (entry_at starts values) starts (λ p. refl) r sorted)
+
+    -- an entry: its value
+    pub first_value : first < r.len → get_or values (place r.head first) (pos 0) ≡ front_of (pos 0) (evicted from (entries_of starts values r))
+    first_value = front_found (entry_at starts values) starts (λ p. refl) r from first found_first (pos 0)
+
+    -- none
+    pub no_value : r.len ≤ first → pos 0 ≡ front_of (pos 0) (evicted from (entries_of starts values r))
+    no_value = front_missing (entry_at starts values) starts (λ p. refl) r from first found_first (pos 0)

@@ -3,7 +3,7 @@
 -- Assumes nothing.
 use Prim.Native.Nat.{ℕ, zero, suc, ◌+◌, ◌-◌, ◌<◌, ◌≤◌}
 use mathlib.Core.Path.{◌≡◌, refl, sym, ap, ap₂, ◌∙◌, subst}
-use mathlib.Core.Bool.{Bool, true, false, cond}
+use mathlib.Core.Bool.{Bool, true, not, cond}
 use mathlib.Core.List.{List, [], ◌∷◌, ◌++◌, map}
 use native.Mathlib.Omega.{arith}
 use borrow.Author.Tests.{lt-ltb, le-ltb}
@@ -12,45 +12,23 @@ use lib.IntN.{ℤ, pos, ◌+ℤ◌, ◌-ℤ◌, +ℤ_idl, +ℤ_idr}
 use lib.ListN.{length, get_or, set, drop}
 use mir.Syntax.{w64}
 use mir.Val.{SFits}
-use Rattle.ints.specs.Sizes.{up, dn, Small}
-use Rattle.ints.proofs.Balance.{bal_add, bal_sub, ext}
+use Rattle.std.proofs.lemmas.Int.{ints}
+use Rattle.std.proofs.lemmas.List.Sums.{prefix_len-le-length}
+use Rattle.std.specs.List.Sorted.{IsNonDecreasing}
+use Rattle.ints.specs.Sizes.{Small}
 use Rattle.ints.proofs.Sizes.{small-more, small_add, small_sub, small-fits}
 use Rattle.window.specs.Orders.{sum}
-use Rattle.window.specs.Partials.{Entry, value_of}
+use Rattle.window.specs.Partials.{Entry, value_of, live}
 use Rattle.window.specs.Standing.{evicted}
 use Rattle.window.specs.Invariant.{Sorted}
 use Rattle.window.proofs.Lists.{le_cases}
 use Rattle.deque.specs.declared.ring.Ring.{Ring}
 use Rattle.deque.specs.declared.sums.Sums.{Sums}
-use Rattle.deque.specs.Rings.{capacity, place, Fits, listed, entry_with, start_at, starts_of, advanced, with_room, count_before, NeverFalls, BeyondKept, appended}
+use Rattle.deque.specs.Rings.{capacity, place, Fits, listed, entry_with, start_at, starts_of, advanced, with_room, count_before, BeyondKept, appended}
 use Rattle.deque.specs.Sums.{sum_at, newest_place, lap_behind, sum_from_place, sum_from, partial_at, partials_of, sum_limit, lap_limit, FitsSums, InBounds}
 use Rattle.deque.proofs.Listed.{listed_cong, length-listed, listed-none, listed-drop, listed_more}
-use Rattle.deque.proofs.Rings.{count_le, listed-rising, listed-evicted, newest-more}
+use Rattle.deque.proofs.Rings.{listed-rising, listed-evicted, newest-more}
 use Rattle.deque.proofs.Stores.{store_other, store_same, store_beyond}
-
--- ---- numbers
-
--- two terms of a sum change places
-swap : (a b c : ℤ) → a +ℤ b +ℤ c ≡ a +ℤ c +ℤ b
-swap a b c = ext _ _ (omega (arith, bal_add (a +ℤ b) c, bal_add a b, bal_add (a +ℤ c) b, bal_add a c))
-
--- nothing is added, and the terms change places
-fresh : (a b c : ℤ) → b ≡ pos 0 → c +ℤ a ≡ a +ℤ b +ℤ c
-fresh a b c e = ext _ _ (omega (arith, bal_add c a, bal_add (a +ℤ b) c, bal_add a b, ap up e, ap dn e))
-
--- a difference with a number more, from the sums of both sides
-less : (a b c d t x : ℤ) → a +ℤ b ≡ c +ℤ d +ℤ x → a -ℤ t +ℤ b ≡ c -ℤ t +ℤ d +ℤ x
-less a b c d t x e =
-    ext _ _
-    (omega (arith, bal_add (a -ℤ t) b, bal_sub a t, bal_add (c -ℤ t +ℤ d) x, bal_add (c -ℤ t) d, bal_sub c t, bal_add a b, bal_add (c +ℤ d) x, bal_add c d, ap up e, ap dn e))
-
--- two differences that meet
-joined : (a b c : ℤ) → (a -ℤ b) +ℤ (b -ℤ c) ≡ a -ℤ c
-joined a b c = ext _ _ (omega (arith, bal_add (a -ℤ b) (b -ℤ c), bal_sub a b, bal_sub b c, bal_sub a c))
-
--- what is added to both drops out of a difference
-shifted : (a b c : ℤ) → (a +ℤ c) -ℤ (b +ℤ c) ≡ a -ℤ b
-shifted a b c = ext _ _ (omega (arith, bal_sub (a +ℤ c) (b +ℤ c), bal_add a c, bal_add b c, bal_sub a b))
 
 -- ---- the cases of the definitions
 
@@ -62,16 +40,6 @@ same-entry e f = ap₂ entry_with e f
 -- that lap
 not_behind : (s : Sums) (p : ℕ) → p ≤ newest_place s → lap_behind s p ≡ pos 0
 not_behind s p l = rw (le-ltb (newest_place s) p l)
-
--- the sum from a place on, by the test whether the place lies behind the newest
-module _ (sums : List ℤ) (s : Sums) (p : ℕ) where
-  -- it does: the lap before is added
-  pub place_behind : ltb (newest_place s) p ≡ true → sum_from_place sums s p ≡ s.lap -ℤ sum_at sums p +ℤ s.previous
-  place_behind e = rw e
-
-  -- it does not: nothing is added
-  pub place_in_lap : ltb (newest_place s) p ≡ false → sum_from_place sums s p ≡ s.lap -ℤ sum_at sums p
-  place_in_lap e = rw e (+ℤ_idr (s.lap -ℤ sum_at sums p))
 
 module _ (sums : List ℤ) (s : Sums) (j : ℕ) where
   -- the sum from an entry of the ring on
@@ -93,10 +61,6 @@ module _ (s : Sums) (f : FitsSums s) where
   pub lap-fits : SFits w64 s.lap
   lap-fits = small-fits lap_limit s.lap (omega arith) lap-small
 
-  -- and so does the lap before
-  pub previous-fits : SFits w64 s.previous
-  previous-fits = small-fits lap_limit s.previous (omega arith) f.previous
-
   -- the lap with the sum of a partial more fits
   pub more-fits : (x : ℤ) → Small sum_limit x → SFits w64 (s.lap +ℤ x)
   more-fits x m = small-fits (lap_limit + sum_limit) (s.lap +ℤ x) (omega arith) (small_add lap_limit sum_limit s.lap x lap-small m)
@@ -110,11 +74,9 @@ module _ (s : Sums) (f : FitsSums s) where
     pub since_fits : SFits w64 (s.lap -ℤ z)
     since_fits = small-fits (lap_limit + lap_limit) (s.lap -ℤ z) (omega arith) since_small
 
-    -- and so does that with the lap before
-    pub both_fit : SFits w64 (s.lap -ℤ z +ℤ s.previous)
-    both_fit =
-        small-fits (lap_limit + lap_limit + lap_limit) (s.lap -ℤ z +ℤ s.previous) (omega arith)
-        (small_add (lap_limit + lap_limit) lap_limit (s.lap -ℤ z) s.previous since_small f.previous)
+    -- and so does that with what lies behind
+    pub both_fit : (b : ℤ) → Small lap_limit b → SFits w64 (s.lap -ℤ z +ℤ b)
+    both_fit b n = small-fits (lap_limit + lap_limit + lap_limit) (s.lap -ℤ z +ℤ b) (omega arith) (small_add (lap_limit + lap_limit) lap_limit (s.lap -ℤ z) b since_small n)
 
 -- ---- eviction
 
@@ -184,8 +146,8 @@ module _ (h n j : ℕ) (inside : h < capacity) (room : n < capacity) (l : j < n)
   test_new z = lt-ltb (place h n) (place h j) (omega arith)
 
   -- and none was before
-  none_behind : place h n ≡ 0 → place h j ≤ place h (n - 1)
-  none_behind z = omega arith
+  all_in_lap : place h n ≡ 0 → place h j ≤ place h (n - 1)
+  all_in_lap z = omega arith
 
 module _ {sums sums₁ : List ℤ} {s s₁ : Sums} {q : ℕ} {v x : ℤ} (c : Pushed sums sums₁ s s₁ q v x) where
   -- after a store at the new place the other entries have what they had
@@ -213,24 +175,21 @@ module _ {sums sums₁ : List ℤ} {s s₁ : Sums} {q : ℕ} {v x : ℤ} (c : Pu
   lap-more : (j : ℕ) → j < s.ring.len → LapStep s s₁ q v x
       → s₁.lap +ℤ lap_behind s₁ (place s₁.ring.head j) ≡ s.lap +ℤ lap_behind s (place s.ring.head j) +ℤ x
   lap-more j l (within_lap nz _ e f) =
-      ap₂ ◌+ℤ◌ e (behind_after j _ _ (test_within s.ring.head s.ring.len j c.inside c.room l (λ z. nz (c.next ∙ z))) f)
-      ∙ swap s.lap x (lap_behind s (place s.ring.head j))
+      omega (arith, ints, behind_after j _ _ (test_within s.ring.head s.ring.len j c.inside c.room l (λ z. nz (c.next ∙ z))) f)
   lap-more j l (new_lap z _ e f) =
-      ap₂ ◌+ℤ◌ e (behind_after j _ _ (test_new s.ring.head s.ring.len j c.inside c.room l (sym c.next ∙ z)) f)
-      ∙ fresh s.lap (lap_behind s (place s.ring.head j)) x
-      (not_behind s (place s.ring.head j) (none_behind s.ring.head s.ring.len j c.inside c.room l (sym c.next ∙ z)))
+      omega (arith, ints, behind_after j _ _ (test_new s.ring.head s.ring.len j c.inside c.room l (sym c.next ∙ z)) f, not_behind s (place s.ring.head j) (all_in_lap s.ring.head s.ring.len j c.inside c.room l (sym c.next ∙ z)))
 
   -- what the table got at the new place is the new lap without x
   own-lap : LapStep s s₁ q v x → s₁.lap -ℤ v ≡ x
-  own-lap (within_lap _ d e _) = ext _ _ (omega (arith, bal_sub s₁.lap v, bal_add s.lap x, ap up d, ap dn d, ap up e, ap dn e))
-  own-lap (new_lap _ d e _) = ext _ _ (omega (arith, bal_sub s₁.lap v, ap up d, ap dn d, ap up e, ap dn e))
+  own-lap (within_lap _ d e _) = omega (arith, ints)
+  own-lap (new_lap _ d e _) = omega (arith, ints)
 
   -- the sum from an entry on grows by x
   sum_more : (j : ℕ) → j < s.ring.len → sum_from sums₁ s₁ j ≡ sum_from sums s j +ℤ x
   sum_more j l =
       sum-within sums₁ s₁ j (omega arith)
       ∙ ap (λ z. s₁.lap -ℤ z +ℤ lap_behind s₁ (place s₁.ring.head j)) (kept sums sums₁ v (pos 0) c.stored j l)
-      ∙ less s₁.lap _ s.lap (lap_behind s (place s.ring.head j)) (sum_at sums (place s.ring.head j)) x (lap-more j l c.step)
+      ∙ omega (arith, ints, lap-more j l c.step)
       ∙ ap (λ z. z +ℤ x) (sym (sum-within sums s j l))
 
   -- the sum from the new entry on is x
@@ -243,7 +202,7 @@ module _ {sums sums₁ : List ℤ} {s s₁ : Sums} {q : ℕ} {v x : ℤ} (c : Pu
 
   -- so each entry keeps its value: a difference of two sums that grow alike
   value-kept : (j : ℕ) → j < s.ring.len → sum_from sums₁ s₁ j -ℤ sum_from sums₁ s₁ (suc j) ≡ sum_from sums s j -ℤ sum_from sums s (suc j)
-  value-kept j l = ap₂ ◌-ℤ◌ (sum_more j l) next-sum ∙ shifted (sum_from sums s j) (sum_from sums s (suc j)) x
+  value-kept j l = ap₂ ◌-ℤ◌ (sum_more j l) next-sum ∙ omega (arith, ints)
     where
       next-sum : sum_from sums₁ s₁ (suc j) ≡ sum_from sums s (suc j) +ℤ x
       next-sum = le_cases s.ring.len (suc j)
@@ -281,7 +240,7 @@ module _ {sums sums₁ : List ℤ} {s s₁ : Sums} {q : ℕ} {v x : ℤ} (c : Pu
   -- what the table got is within the bound
   stored_small : FitsSums s → LapStep s s₁ q v x → Small lap_limit v
   stored_small f (within_lap _ d _ _) = subst (Small lap_limit) (sym d) (lap-small s f)
-  stored_small f (new_lap _ d _ _) = subst (Small lap_limit) (sym d) (record { above = omega arith; below = omega arith })
+  stored_small f (new_lap _ d _ _) = record { above = omega (arith, ints); below = omega (arith, ints) }
 
   -- the numbers that the table holds are still within their bound
   pub pushed_bounds : FitsSums s → InBounds sums s → InBounds sums₁ s₁
@@ -295,7 +254,7 @@ module _ {sums sums₁ : List ℤ} {s s₁ : Sums} {q : ℕ} {v x : ℤ} (c : Pu
 telescope : (m : ℕ) (f : ℕ → Entry ℤ) (g : ℕ → ℤ) → ((i : ℕ) → (f i).value ≡ g i -ℤ g (suc i)) → sum (map value_of (listed (suc m) f)) ≡ g 0 -ℤ g (suc m)
 unfolding listed
 telescope zero f g h = h 0
-telescope (suc m) f g h = ap₂ ◌+ℤ◌ (h 0) (telescope m (λ i. f (suc i)) (λ i. g (suc i)) (λ i. h (suc i))) ∙ joined (g 0) (g 1) (g (suc (suc m)))
+telescope (suc m) f g h = ap₂ ◌+ℤ◌ (h 0) (telescope m (λ i. f (suc i)) (λ i. g (suc i)) (λ i. h (suc i))) ∙ omega (arith, ints)
 
 module _ (starts : List ℕ) (sums : List ℤ) (s : Sums) (j : ℕ) (l : j < s.ring.len) where
   -- the values of the entries from entry j on sum up to the sum from its place on
@@ -306,15 +265,9 @@ module _ (starts : List ℕ) (sums : List ℤ) (s : Sums) (j : ℕ) (l : j < s.r
       ∙ ap₂ ◌-ℤ◌ (ap (sum_from sums s) (omega arith) ∙ sum-within sums s j l) (sum-at_end sums s (j + suc (s.ring.len - suc j)) (omega arith))
       ∙ +ℤ_idr (sum_from_place sums s (place s.ring.head j))
 
-  -- as the code reads it: p is the entry's place, and z the number of the table there
-  module _ (p : ℕ) (z : ℤ) (here : p ≡ place s.ring.head j) (read : z ≡ sum_at sums p) where
-    -- where the place lies behind the newest
-    pub sum_behind : newest_place s < p → s.lap -ℤ z +ℤ s.previous ≡ sum (map value_of (drop j (partials_of starts sums s)))
-    sum_behind m = ap (λ t. s.lap -ℤ t +ℤ s.previous) read ∙ sym (sum_from-place ∙ ap (sum_from_place sums s) (sym here) ∙ place_behind sums s p (lt-ltb (newest_place s) p m))
-
-    -- where it does not
-    pub sum_in_lap : p ≤ newest_place s → s.lap -ℤ z ≡ sum (map value_of (drop j (partials_of starts sums s)))
-    sum_in_lap m = ap (λ t. s.lap -ℤ t) read ∙ sym (sum_from-place ∙ ap (sum_from_place sums s) (sym here) ∙ place_in_lap sums s p (le-ltb (newest_place s) p m))
+  -- as the code reads it: p is the entry's place, z the number of the table there, and b what lies behind
+  pub sum_read : (p : ℕ) (z b : ℤ) → p ≡ place s.ring.head j → z ≡ sum_at sums p → b ≡ lap_behind s p → s.lap -ℤ z +ℤ b ≡ sum (map value_of (drop j (partials_of starts sums s)))
+  sum_read p z b here read behind = rw (read, behind, here) (sym sum_from-place)
 
 -- ---- evicting, as the code goes
 
@@ -323,41 +276,32 @@ pub partials-evicted : (starts : List ℕ) (sums : List ℤ) (s : Sums) (h k : �
 partials-evicted starts sums s = listed-evicted s.ring.len (partial_at starts sums s) (λ j. start_at starts (place s.ring.head j)) (λ j. refl)
 
 -- sorted partials have starts that never fall
-pub partials-rising : (starts : List ℕ) (sums : List ℤ) (s : Sums) → Sorted (partials_of starts sums s) → NeverFalls (starts_of starts s.ring)
+pub partials-rising : (starts : List ℕ) (sums : List ℤ) (s : Sums) → Sorted (partials_of starts sums s) → IsNonDecreasing (starts_of starts s.ring)
 partials-rising starts sums s = listed-rising s.ring.len (partial_at starts sums s) (λ j. start_at starts (place s.ring.head j)) (λ j. refl)
 
--- what evicting ensures of the state before and after, with the horizon h
-abbrev pub Evicts : (starts : List ℕ) (s s₁ : Sums) (h : ℕ) → Type 0
-Evicts starts s s₁ h =
-    FitsSums s₁
-    × (((sums : List ℤ) → partials_of starts sums s₁ ≡ evicted h (partials_of starts sums s))
-    × (((sums : List ℤ) → InBounds sums s → InBounds sums s₁) × ((s₁.lap ≡ s.lap) × (s₁.previous ≡ s.previous))))
-
--- `kept` is the ring after eviction
+-- what evicting ensures: `kept` is the ring after it
 module _ (starts : List ℕ) (s : Sums) (h : ℕ) (kept : Ring) (evict : kept ≡ advanced (count_before h (starts_of starts s.ring)) s.ring) where
   count-within : count_before h (starts_of starts s.ring) ≤ s.ring.len
-  count-within = omega (arith, count_le h (starts_of starts s.ring), length-listed s.ring.len (λ j. start_at starts (place s.ring.head j)))
+  count-within = omega (arith, prefix_len-le-length (λ t. not (live h t)) (starts_of starts s.ring), length-listed s.ring.len (λ j. start_at starts (place s.ring.head j)))
 
-  -- all that evicting ensures
-  pub evicted-all : (s₁ : Sums) → FitsSums s → s₁ ≡ on_ring kept s → Evicts starts s s₁ h
-  evicted-all s₁ f e =
-      rw e (
-        evicted-fits s kept _ count-within evict f,
-        (
-          (λ sums. evicted-partials s kept _ count-within evict starts sums ∙ partials-evicted starts sums s h _ refl),
-          (evicted-bounds s kept _ count-within evict, (refl, refl)),
-        ),
-      )
+  pub fits_evicted : FitsSums s → FitsSums (on_ring kept s)
+  fits_evicted = evicted-fits s kept _ count-within evict
+
+  pub partials_evicted : (sums : List ℤ) → partials_of starts sums (on_ring kept s) ≡ evicted h (partials_of starts sums s)
+  partials_evicted sums = evicted-partials s kept _ count-within evict starts sums ∙ partials-evicted starts sums s h _ refl
+
+  pub bounds_evicted : (sums : List ℤ) → InBounds sums s → InBounds sums (on_ring kept s)
+  bounds_evicted = evicted-bounds s kept _ count-within evict
 
 -- ---- the closing step
 
 -- what the closing step ensures of the tables and the state before and after, for a partial that starts at `start` with
 -- the sum x
-abbrev pub Closes : (starts starts₁ : List ℕ) (sums sums₁ : List ℤ) (s s₁ : Sums) (start : ℕ) (x : ℤ) → Type 0
-Closes starts starts₁ sums sums₁ s s₁ start x =
-    FitsSums s₁
-    × ((partials_of starts₁ sums₁ s₁ ≡ appended (entry_with start x) (partials_of starts sums s))
-    × ((InBounds sums s → InBounds sums₁ s₁) × (BeyondKept starts starts₁ × BeyondKept sums sums₁)))
+pub record Closes (starts starts₁ : List ℕ) (sums sums₁ : List ℤ) (s s₁ : Sums) (start : ℕ) (x : ℤ) : Type 0 where
+  pub fits : FitsSums s₁
+  pub entries : partials_of starts₁ sums₁ s₁ ≡ appended (entry_with start x) (partials_of starts sums s)
+  pub bounds : InBounds sums s → InBounds sums₁ s₁
+  pub beyond : BeyondKept starts starts₁ × BeyondKept sums sums₁
 
 -- `room` is the ring with room for one more
 module _ (starts : List ℕ) (s : Sums) (room : Ring) (spare : room ≡ with_room s.ring) (f : FitsSums s) where
@@ -382,16 +326,12 @@ module _ (starts : List ℕ) (s : Sums) (room : Ring) (spare : room ≡ with_roo
   -- all that the closing step ensures
   pub closed_all : {sums sums₁ : List ℤ} {s₁ : Sums} {q : ℕ} {v x : ℤ} → Small sum_limit x → Pushed sums sums₁ (on_ring room s) s₁ q v x
       → (starts₁ : List ℕ) (start : ℕ) → capacity ≤ length starts → starts₁ ≡ set starts q start → Closes starts starts₁ sums sums₁ s s₁ start x
-  closed_all {sums} {sums₁} {s₁} {q} {v} {x} m c starts₁ start long e = (
-    pushed_fits c ready_fits m,
-    (
-      closed-partials c starts₁ start long e,
-      (
-        (λ b. pushed_bounds c ready_fits (evicted-bounds s room (s.ring.len + 1 - capacity) spare_within spare sums b)),
-        (rw e (store_beyond q room.head room.len c.next starts start), rw c.stored (store_beyond q room.head room.len c.next sums v)),
-      ),
-    ),
-  )
+  closed_all {sums} {sums₁} {s₁} {q} {v} {x} m c starts₁ start long e = record {
+    fits = pushed_fits c ready_fits m;
+    entries = closed-partials c starts₁ start long e;
+    bounds = λ b. pushed_bounds c ready_fits (evicted-bounds s room (s.ring.len + 1 - capacity) spare_within spare sums b);
+    beyond = (rw e (store_beyond q room.head room.len c.next starts start), rw c.stored (store_beyond q room.head room.len c.next sums v));
+  }
 
 -- from the end on there is nothing to sum
 pub sum-none : (starts : List ℕ) (sums : List ℤ) (s : Sums) (j : ℕ) → s.ring.len ≤ j → pos 0 ≡ sum (map value_of (drop j (partials_of starts sums s)))

@@ -4,7 +4,7 @@ use Prim.Native.Nat.{ℕ, zero, suc, ◌+◌, ◌-◌, ◌<◌}
 use mathlib.Core.Path.{◌≡◌, refl, ap, ap₂, ◌∙◌}
 use mathlib.Core.List.{List, [], ◌∷◌, ◌++◌, map}
 use native.Mathlib.Omega.{arith}
-use lib.ListN.{length, drop}
+use lib.ListN.{length, get_or, drop}
 use Rattle.deque.specs.Rings.{listed}
 
 one_more : (n : ℕ) → 0 < n → n ≡ suc (n - 1)
@@ -22,6 +22,13 @@ module _ {A : Type 0} where
   length-listed zero f = refl
   length-listed (suc n) f = ap suc (length-listed n (λ j. f (suc j)))
 
+  -- the element at an index
+  pub get_or-listed : (n : ℕ) (f : ℕ → A) (j : ℕ) (d : A) → j < n → get_or (listed n f) j d ≡ f j
+  unfolding listed
+  get_or-listed zero f j d l = absurd (omega arith)
+  get_or-listed (suc n) f zero d l = refl
+  get_or-listed (suc n) f (suc j) d l = get_or-listed n (λ i. f (suc i)) j d (omega arith)
+
   -- the empty list
   pub listed-none : (n : ℕ) (f : ℕ → A) → n ≡ 0 → listed n f ≡ []
   unfolding listed
@@ -36,10 +43,6 @@ module _ {A : Type 0} where
   unfolding listed
   listed_snoc zero f = refl
   listed_snoc (suc n) f = ap (λ l. f 0 ∷ l) (listed_snoc n (λ j. f (suc j)))
-
-  -- all but the last, and the last
-  pub listed_back : (n : ℕ) (f : ℕ → A) → 0 < n → listed n f ≡ listed (n - 1) f ++ (f (n - 1) ∷ [])
-  listed_back n f h = ap (λ m. listed m f) (one_more n h) ∙ listed_snoc (n - 1) f
 
   -- one more at the end
   pub listed_more : (n : ℕ) (f : ℕ → A) → listed (n + 1) f ≡ listed n f ++ (f n ∷ [])

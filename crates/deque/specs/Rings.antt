@@ -1,7 +1,7 @@
 -- A ring over the first 4,096 places of lent tables (document 01, "The board"), and the list of entries that it holds.
 -- Assumes nothing.
-use Rattle.std.specs.Prelude.{ℕ, zero, suc, ◌+◌, ◌-◌, ◌%◌, ◌≤◌, ◌<◌, ◌≡◌, cond, List, [], ◌∷◌, ◌++◌, length, get_or, drop}
-use Rattle.window.specs.Lists.{Each}
+use Rattle.std.specs.Prelude.{ℕ, zero, suc, ◌+◌, ◌-◌, ◌%◌, ◌≤◌, ◌<◌, ◌≡◌, List, [], ◌∷◌, ◌++◌, length, get_or, drop}
+use Rattle.std.specs.List.{position_or_len}
 use Rattle.window.specs.Partials.{Entry, live}
 use Rattle.deque.specs.declared.ring.Ring.{Ring}
 
@@ -54,14 +54,8 @@ abbrev pub grown : Ring → Ring
 grown r = record { head = r.head; len = r.len + 1 }
 
 -- how many starts stand before the first that is at h or later; all of them where none is
-unfoldable pub count_before : ℕ → List ℕ → ℕ
-count_before h [] = 0
-count_before h (s ∷ ss) = cond (live h s) 0 (suc (count_before h ss))
-
--- starts never fall
-abbrev pub NeverFalls : List ℕ → Type 0
-NeverFalls [] = Unit {0}
-NeverFalls (s ∷ ss) = Each (λ (t : ℕ). s ≤ t) ss × NeverFalls ss
+abbrev pub count_before : ℕ → List ℕ → ℕ
+count_before h ss = position_or_len (live h) ss
 
 -- what stands beyond the first 4,096 places of a table is as it was
 abbrev pub BeyondKept : {A : Type 0} → List A → List A → Type 0

@@ -19,19 +19,20 @@ pub struct Deque {
 
 impl Deque {
     // No entry, and no comparison made.
+    #[tactic(auto, unfolding(crate::specs::Rings::listed))]
     pub fn empty() -> Deque
         ensures fits { Fits result.ring }
         ensures entries { (starts : List ℕ) (values : List ℤ) → entries_of starts values result.ring ≡ [] }
         ensures cost { result.comparisons ≡ 0 }
     {
-        let ring = Ring::empty();
         Deque {
-            ring,
+            ring: Ring::empty(),
             comparisons: 0,
         }
     }
 
     // Without the oldest entries that start before the horizon.
+    #[tactic(auto, using(crate::proofs::Closing::entries_evicted))]
     pub fn evict(self, starts: &[Count], horizon: Count) -> Deque
         requires { Fits self.ring × (capacity ≤ length starts.now) }
         ensures fits { Fits result.ring }
@@ -63,29 +64,26 @@ impl Deque {
             ≡ self.comparisons + trim_comparisons (order_of extreme) (entry_with start value) (entries_of starts.old values.old self.ring) }
         ensures beyond { BeyondKept starts.old starts.new × BeyondKept values.old values.new }
     {
-        let ring = self.ring;
-        let mut len = ring.len;
+        let mut len = self.ring.len;
         let mut total = self.comparisons;
         let left = loop {
-            if len == 0 {
+            let Some(newest) = len.checked_sub(1) else {
                 break 0;
-            }
-            let last = ring.place(len - 1);
+            };
+            let last = self.ring.place(newest);
             let compared = compare(extreme, values[last], value, total);
             total = compared.total;
             if !compared.verdict {
                 break len;
             }
-            len -= 1;
+            len = newest;
         };
-        let trimmed = Ring {
-            head: ring.head,
+        let mut ring = Ring {
             len: left,
+            ..self.ring
         };
-        let pushed = trimmed.push(starts, start);
-        let p = pushed.place;
-        values[p] = value;
-        let ring = pushed.ring;
+        let next = ring.push(starts, start);
+        values[next] = value;
         Deque {
             ring,
             comparisons: total,
@@ -94,17 +92,18 @@ impl Deque {
 
     // The value of the first entry that starts at `from` or later: the extreme of the readings since then. 0 where
     // there is none.
+    #[tactic(auto, using(crate::proofs::Closing::first_value, crate::proofs::Closing::no_value))]
     pub fn extreme_from(self, starts: &[Count], values: &[i32], from: Count) -> i32
         requires { Fits self.ring × (capacity ≤ length starts.now) × (capacity ≤ length values.now) }
         ensures { Sorted (entries_of starts.now values.now self.ring)
             → result ≡ front_of (pos 0) (evicted from (entries_of starts.now values.now self.ring)) }
     {
-        let ring = self.ring;
-        let first = ring.search(starts, from);
-        if first < ring.len {
-            let p = ring.place(first);
-            return values[p];
+        let first = self.ring.search(starts, from);
+        if first < self.ring.len {
+            let place = self.ring.place(first);
+            values[place]
+        } else {
+            0
         }
-        0
     }
 }

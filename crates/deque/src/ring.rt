@@ -1,9 +1,10 @@
-// A ring over the first 4,096 places of lent tables: where its entries stand, evicting the oldest, and searching by
-// start.
-ghost use Rattle.std.specs.Prelude.{◌≡◌, true, ◌-◌, ◌<◌, ◌≤◌, length, set};
-ghost use Rattle.deque.specs.Rings.{capacity, place, Fits, start_at, starts_of, advanced, with_room, grown, count_before, NeverFalls};
+// A ring over the first 4,096 places of lent tables: where its entries stand, evicting the oldest, and one entry more.
+ghost use Rattle.std.specs.Prelude.{◌≡◌, ◌+◌, ◌-◌, ◌<◌, ◌≤◌, ◌↔◌, IsTrue, length, set};
+ghost use Rattle.std.specs.List.Sorted.{IsNonDecreasing};
+ghost use Rattle.deque.specs.Rings.{capacity, place, Fits, starts_of, advanced, with_room, grown, count_before};
 
-use window::count::{Count, size};
+use crate::starts::Starts;
+use window::count::Count;
 
 // How many places of each table are used.
 pub const CAPACITY: usize = 4_096;
@@ -13,21 +14,6 @@ pub const CAPACITY: usize = 4_096;
 pub struct Ring {
     pub head: usize,
     pub len: usize,
-}
-
-// A ring with one entry more, and the place of that entry.
-#[derive(Clone, Copy)]
-pub(crate) struct Pushed {
-    pub ring: Ring,
-    pub place: usize,
-}
-
-// The place after p.
-pub(crate) fn next_place(p: usize) -> usize
-    requires { p < capacity }
-    ensures { result ≡ place p 1 }
-{
-    if p == CAPACITY - 1 { 0 } else { p + 1 }
 }
 
 impl Ring {
@@ -40,12 +26,9 @@ impl Ring {
 
     // Whether a ring that was handed in can be used.
     pub fn fits(self) -> bool
-        ensures { (result ≡ true → Fits self) × (Fits self → result ≡ true) }
+        ensures { IsTrue result ↔ Fits self }
     {
-        if self.head < CAPACITY {
-            return self.len <= CAPACITY;
-        }
-        false
+        self.head < CAPACITY && self.len <= CAPACITY
     }
 
     // The place of entry j.
@@ -56,22 +39,42 @@ impl Ring {
         (self.head + j) % CAPACITY
     }
 
+    // Without its k oldest entries.
+    fn advanced(self, k: usize) -> Ring
+        requires { Fits self × (k ≤ self.len) }
+        ensures { result ≡ advanced k self }
+    {
+        Ring {
+            head: self.place(k),
+            len: self.len - k,
+        }
+    }
+
     // Without the oldest entries that start before the horizon.
-    pub(crate) fn evict(self, starts: &[Count], horizon: Count) -> Ring
+    #[tactic(auto, using(crate::proofs::Rings::evicted_is))]
+    pub(crate) fn evict(mut self, starts: &[Count], horizon: Count) -> Ring
         requires { Fits self × (capacity ≤ length starts.now) }
         ensures fits { Fits result × (result.len ≤ self.len) }
         ensures evicted { result ≡ advanced (count_before horizon (starts_of starts.now self)) self }
     {
-        let mut head = self.head;
-        let mut len = self.len;
-        while 0 < len {
-            if horizon <= starts[head] {
-                return Ring { head, len };
-            }
-            head = next_place(head);
-            len -= 1;
+        while 0 < self.len && starts[self.head] < horizon {
+            self = self.advanced(1);
         }
-        Ring { head, len }
+        self
+    }
+
+    // How many entries come before the first that starts at `from` or later, where starts never fall.
+    pub(crate) fn search(self, starts: &[Count], from: Count) -> usize
+        requires { Fits self × (capacity ≤ length starts.now) }
+        ensures within { result ≤ self.len }
+        ensures found { IsNonDecreasing (starts_of starts.now self)
+            → result ≡ count_before from (starts_of starts.now self) }
+    {
+        let entries = Starts {
+            ring: self,
+            table: starts,
+        };
+        entries.search(from)
     }
 
     // With room for one entry more: a full ring drops its oldest. Where the ring holds live partials alone, there is
@@ -81,109 +84,24 @@ impl Ring {
         ensures fits { Fits result × (result.len < capacity) }
         ensures room { result ≡ with_room self }
     {
-        let head = self.head;
-        let len = self.len;
-        if len < CAPACITY {
-            return Ring { head, len };
-        }
-        Ring {
-            head: next_place(head),
-            len: len - 1,
+        if self.len < CAPACITY {
+            self
+        } else {
+            self.advanced(1)
         }
     }
 
-    // With one entry more, after the newest, whose start is stored at its place.
-    pub(crate) fn push(self, starts: &mut [Count], start: Count) -> Pushed
-        requires { Fits self × (capacity ≤ length starts.old) }
-        ensures fits { Fits result.ring × (result.place < capacity) }
-        ensures pushed { (result.ring ≡ grown (with_room self)) × (result.place ≡ place (with_room self).head (with_room self).len) }
-        ensures stored { starts.new ≡ set starts.old result.place start }
+    // One entry more, after the newest: its start is stored at its place, which is returned.
+    pub(crate) fn push(&mut self, starts: &mut [Count], start: Count) -> usize
+        requires { Fits self.old × (capacity ≤ length starts.old) }
+        ensures fits { Fits self.new × (result < capacity) }
+        ensures pushed { (self.new ≡ grown (with_room self.old)) × (result ≡ place (with_room self.old).head (with_room self.old).len) }
+        ensures stored { starts.new ≡ set starts.old result start }
     {
-        let room = self.with_room();
-        let place = room.place(room.len);
+        *self = self.with_room();
+        let place = self.place(self.len);
         starts[place] = start;
-        let len = room.len + 1;
-        let ring = Ring {
-            head: room.head,
-            len,
-        };
-        Pushed { ring, place }
-    }
-
-    // Where the first entry that starts at `from` or later would be if each entry since the oldest held one reading, as
-    // with a slide of 1.
-    fn guess(self, starts: &[Count], from: Count) -> usize
-        requires { Fits self × (capacity ≤ length starts.now) }
-        ensures { result ≤ self.len }
-    {
-        let head = self.head;
-        let oldest = starts[head];
-        if from <= oldest {
-            return 0;
-        }
-        let steps = size(from - oldest);
-        if steps < self.len { steps } else { self.len }
-    }
-
-    // Whether entry j starts at `from` or later, or there is none.
-    fn reaches(self, starts: &[Count], from: Count, j: usize) -> bool
-        requires { Fits self × (capacity ≤ length starts.now) × (j ≤ self.len) }
-        ensures { result ≡ true → j < self.len → from ≤ start_at starts.now (place self.head j) }
-    {
-        if j < self.len {
-            let p = self.place(j);
-            return from <= starts[p];
-        }
-        true
-    }
-
-    // Whether the entry before entry j starts before `from`, or there is none.
-    fn follows(self, starts: &[Count], from: Count, j: usize) -> bool
-        requires { Fits self × (capacity ≤ length starts.now) × (j ≤ self.len) }
-        ensures { result ≡ true → 0 < j → start_at starts.now (place self.head (j - 1)) < from }
-    {
-        if j == 0 {
-            return true;
-        }
-        let p = self.place(j - 1);
-        starts[p] < from
-    }
-
-    // How many entries come before the first that starts at `from` or later: as guessed, where the two entries there
-    // say so, and else by binary search.
-    pub(crate) fn search(self, starts: &[Count], from: Count) -> usize
-        requires { Fits self × (capacity ≤ length starts.now) }
-        ensures within { result ≤ self.len }
-        ensures found { NeverFalls (starts_of starts.now self)
-            → result ≡ count_before from (starts_of starts.now self) }
-    {
-        let guess = self.guess(starts, from);
-        if self.reaches(starts, from, guess) {
-            if self.follows(starts, from, guess) {
-                return guess;
-            }
-        }
-        self.bisect(starts, from)
-    }
-
-    // The same, by binary search.
-    fn bisect(self, starts: &[Count], from: Count) -> usize
-        requires { Fits self × (capacity ≤ length starts.now) }
-        ensures within { result ≤ self.len }
-        ensures found { NeverFalls (starts_of starts.now self)
-            → result ≡ count_before from (starts_of starts.now self) }
-    {
-        let mut low = 0;
-        let mut high = self.len;
-        while low < high {
-            let middle = low + (high - low) / 2;
-            let p = self.place(middle);
-            if starts[p] < from {
-                low = middle + 1;
-            } else {
-                high = middle;
-            }
-        }
-        low
+        self.len += 1;
+        place
     }
 }

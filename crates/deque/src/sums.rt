@@ -1,22 +1,22 @@
 // The closed partials with their sums, on a table of starts and one of sums. The table of sums holds at each place the
 // sum of the partials before it in its lap, so that the sum of a window is one subtraction.
-ghost use Rattle.std.specs.Prelude.{◌≡◌, true, List, [], map, ℕ, ◌*◌, ◌<◌, ◌≤◌, ℤ, length};
+ghost use Rattle.std.specs.Prelude.{◌≡◌, ◌↔◌, IsTrue, List, [], map, ℕ, ◌*◌, ◌<◌, ◌≤◌, ℤ, length};
 ghost use Rattle.ints.specs.Sizes.{Small};
 ghost use Rattle.window.specs.Orders.{sum};
 ghost use Rattle.window.specs.Partials.{value_of};
 ghost use Rattle.window.specs.Standing.{evicted};
 ghost use Rattle.window.specs.Invariant.{Sorted};
 ghost use Rattle.deque.specs.Rings.{capacity, entry_with, appended, BeyondKept};
-ghost use Rattle.deque.specs.Sums.{partials_of, sum_limit, lap_places, FitsSums, InBounds};
+ghost use Rattle.deque.specs.Sums.{partials_of, sum_limit, lap_limit, lap_places, lap_behind, FitsSums, InBounds};
 
 use crate::ring::Ring;
 use window::count::Count;
 
 // The greatest size of a partial's sum: 2^47, the sum of 65,536 readings.
-pub const SUM_LIMIT: u64 = 140_737_488_355_328;
+pub const SUM_LIMIT: u64 = 1 << 47;
 
 // The greatest size of a lap's sum: 2^59.
-pub const LAP_LIMIT: u64 = 576_460_752_303_423_488;
+pub const LAP_LIMIT: u64 = 1 << 59;
 
 // The closed partials: their ring, and the sums of two laps of it. A lap is a run of pushes from place 0 to the last
 // one.
@@ -35,21 +35,22 @@ fn lap_bound(p: usize) -> u64
     ensures { result ≡ lap_places p * sum_limit }
 {
     if p == 0 {
-        return LAP_LIMIT;
+        LAP_LIMIT
+    } else {
+        p as u64 * SUM_LIMIT
     }
-    p as u64 * SUM_LIMIT
 }
 
 impl Sums {
     // No partial.
+    #[tactic(auto, unfolding(crate::specs::Rings::listed))]
     pub fn empty() -> Sums
         ensures fits { FitsSums result }
         ensures entries { (starts : List ℕ) (sums : List ℤ) → partials_of starts sums result ≡ [] }
         ensures bounds { (sums : List ℤ) → InBounds sums result }
     {
-        let ring = Ring::empty();
         Sums {
-            ring,
+            ring: Ring::empty(),
             lap: 0,
             previous: 0,
         }
@@ -57,38 +58,28 @@ impl Sums {
 
     // Whether a state that was handed in can be used.
     pub fn fits(self) -> bool
-        ensures { (result ≡ true → FitsSums self) × (FitsSums self → result ≡ true) }
+        ensures { IsTrue result ↔ FitsSums self }
     {
-        let ring = self.ring;
-        if !ring.fits() {
-            return false;
-        }
-        let next = ring.place(ring.len);
-        if !ints::is_small(lap_bound(next), self.lap) {
-            return false;
-        }
-        ints::is_small(LAP_LIMIT, self.previous)
+        self.ring.fits()
+            && self.lap.unsigned_abs() <= lap_bound(self.ring.place(self.ring.len))
+            && self.previous.unsigned_abs() <= LAP_LIMIT
     }
 
     // Without the oldest partials that start before the horizon.
-    pub fn evict(self, starts: &[Count], horizon: Count) -> Sums
+    pub fn evict(mut self, starts: &[Count], horizon: Count) -> Sums
         requires { FitsSums self × (capacity ≤ length starts.now) }
         ensures fits { FitsSums result }
         ensures entries { (sums : List ℤ) → partials_of starts.now sums result ≡ evicted horizon (partials_of starts.now sums self) }
         ensures bounds { (sums : List ℤ) → InBounds sums self → InBounds sums result }
         ensures laps { (result.lap ≡ self.lap) × (result.previous ≡ self.previous) }
     {
-        let ring = self.ring;
-        let kept = ring.evict(starts, horizon);
-        Sums {
-            ring: kept,
-            lap: self.lap,
-            previous: self.previous,
-        }
+        self.ring = self.ring.evict(starts, horizon);
+        self
     }
 
-    // The closing step, once the ring is evicted: the partial that starts at `start` closes with `sum`.
-    pub fn close(self, starts: &mut [Count], sums: &mut [i64], start: Count, sum: i64) -> Sums
+    // The closing step, once the ring is evicted: the partial that starts at `start` closes with `sum`. At place 0 a new
+    // lap begins.
+    pub fn close(mut self, starts: &mut [Count], sums: &mut [i64], start: Count, sum: i64) -> Sums
         requires { FitsSums self × (capacity ≤ length starts.old) × (capacity ≤ length sums.old) × Small sum_limit sum }
         ensures fits { FitsSums result }
         ensures entries { partials_of starts.new sums.new result
@@ -96,26 +87,25 @@ impl Sums {
         ensures bounds { InBounds sums.old self → InBounds sums.new result }
         ensures beyond { BeyondKept starts.old starts.new × BeyondKept sums.old sums.new }
     {
-        let ring = self.ring;
-        let pushed = ring.push(starts, start);
-        let p = pushed.place;
-        let ring = pushed.ring;
-        let lap = self.lap;
-        if p == 0 {
-            sums[p] = 0;
-            return Sums {
-                ring,
-                lap: sum,
-                previous: lap,
-            };
+        let place = self.ring.push(starts, start);
+        if place == 0 {
+            self.previous = self.lap;
+            self.lap = 0;
         }
-        sums[p] = lap;
-        let longer = lap + sum;
-        Sums {
-            ring,
-            lap: longer,
-            previous: self.previous,
-        }
+        sums[place] = self.lap;
+        self.lap += sum;
+        self
+    }
+
+    // The sum of the lap before, where a place is greater than that of the newest: what stands there belongs to that
+    // lap.
+    fn lap_behind(self, place: usize) -> i64
+        requires { FitsSums self × (0 < self.ring.len) }
+        ensures value { result ≡ lap_behind self place }
+        ensures small { Small lap_limit result }
+    {
+        let newest = self.ring.place(self.ring.len - 1);
+        if newest < place { self.previous } else { 0 }
     }
 
     // The sum of the partials that start at `from` or later.
@@ -127,18 +117,10 @@ impl Sums {
     {
         let ring = self.ring;
         let first = ring.search(starts, from);
-        let len = ring.len;
-        if len <= first {
+        if ring.len <= first {
             return 0;
         }
-        let p = ring.place(first);
-        let last = ring.place(len - 1);
-        let before = ints::clamp(LAP_LIMIT, sums[p]);
-        let since = self.lap - before;
-        if last < p {
-            since + self.previous
-        } else {
-            since
-        }
+        let place = ring.place(first);
+        self.lap - ints::clamp(LAP_LIMIT, sums[place]) + self.lap_behind(place)
     }
 }

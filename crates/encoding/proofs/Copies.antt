@@ -1,15 +1,11 @@
--- The law of the loops that copy: what they have made after i turns. And that a state is written at the front.
+-- A loop that copies: what one turn makes. No proof needs it today; it is a law that documents named.
 -- Assumes nothing.
-use Prim.Native.Nat.{ℕ, suc, ◌+◌, ◌-◌, ◌≤◌, ◌<◌}
-use mathlib.Core.Path.{◌≡◌, sym, ap, ◌∙◌}
+use Prim.Native.Nat.{ℕ, suc, ◌+◌, ◌<◌}
+use mathlib.Core.Path.{◌≡◌, sym, ◌∙◌}
 use mathlib.Core.List.{List, ◌++◌}
 use native.Mathlib.Omega.{arith}
-use lib.ListN.{length, get_or, take, drop, set, length-append, length-drop}
-use lib.Seq.{drop-cons, take-suc, set_at, length-take-le, append_snoc, drop_at}
-use Rattle.board.specs.Tables.{KeptBeyond}
-use Rattle.engine.specs.declared.state.State.{State}
-use Rattle.encoding.specs.Written.{state_numbers, numbers_of_state}
-use Rattle.encoding.proofs.States.{numbers_eighteen}
+use lib.ListN.{length, get_or, take, drop, set}
+use lib.Seq.{drop-cons, take-suc, set_at, length-take-le, append_snoc}
 
 -- s was copied over the first i places of t: with one turn more, over one place more
 pub copied_more : {A : Type 0} (d : A) (s t now : List A) (i : ℕ) → i < length s → i < length t → now ≡ take i s ++ drop i t
@@ -20,20 +16,3 @@ copied_more {A} d s t now i l g e =
   where
     one : (m : ℕ) → m + 1 ≡ suc m
     one m = omega arith
-
--- ---- what is written stands at the front
-
--- nothing beyond the front is written
-front_kept : (front w w' : List ℕ) (k : ℕ) → length front ≡ k → k ≤ length w → w' ≡ front ++ drop k w → KeptBeyond k w w'
-front_kept front w w' k n l e =
-    record {
-      as_long = ap length e ∙ length-append front (drop k w) ∙ long (length-drop k w);
-      beyond = ap (drop k) e ∙ drop_at front (drop k w) k n;
-    }
-  where
-    long : length (drop k w) ≡ length w - k → length front + length (drop k w) ≡ length w
-    long d = omega arith
-
--- of a state
-pub state-kept : (st : State) (w w' : List ℕ) → state_numbers ≤ length w → w' ≡ numbers_of_state st ++ drop state_numbers w → KeptBeyond state_numbers w w'
-state-kept st w w' = front_kept (numbers_of_state st) w w' state_numbers (numbers_eighteen st)

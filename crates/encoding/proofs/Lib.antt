@@ -1,3 +1,3 @@
 pub mod Signs
-pub mod Copies
 pub mod States
+pub mod Copies

@@ -1,78 +1,47 @@
--- The laws of a state as numbers: what is written is read again.
+-- The laws of a state as numbers: what is written is read again, and it is written at the front.
 -- Assumes nothing.
-use Prim.Native.Nat.{ℕ, ◌<◌, ◌≤◌}
-use mathlib.Core.Path.{◌≡◌, refl, ap, ◌∙◌}
-use mathlib.Core.Bool.{true}
-use mathlib.Core.List.{[], ◌∷◌}
-use borrow.Author.Tests.{lt-ltb, le-leb}
-use lib.IntN.{ℤ}
+use Rattle.std.proofs.Common.{ℕ, ◌≤◌, ◌≡◌, refl, ap, ◌∙◌, true, ℤ, List, ◌++◌, length, drop, w32, arith, length-append, length-drop}
+use Rattle.std.proofs.lemmas.Bool.{lt-ltb, le-leb}
 use lib.Dec.{ltb}
-use lib.ListN.{length}
-use mir.Syntax.{w32}
+use lib.Seq.{drop_at}
 use mir.Val.{SFits}
 use Rattle.window.specs.Queries.{count_limit}
+use Rattle.board.specs.Tables.{KeptBeyond}
 use Rattle.board.specs.declared.aggregate.Aggregate.{Aggregate}
 use Rattle.engine.specs.declared.partial.Open.{Open}
 use Rattle.engine.specs.declared.partial.Open.TheVariants.{Nothing, Empty, Holding}
 use Rattle.engine.specs.declared.state.State.{State}
 use Rattle.encoding.specs.Signed.{unsigned, signed}
-use Rattle.encoding.specs.Written.{state_numbers, width32, case_of, held_in, held_of, open_of, at, count_in, narrow, numbers_of_state, board_of, state_of, within_widths, registered_in}
-use Rattle.encoding.proofs.Signs.{signed-unsigned, unsigned-narrow}
+use Rattle.encoding.specs.Written.{state_numbers, width32, narrow, case_of, held_in, held_of, open_of, at, count_in, numbers_of_state, board_of, state_of, within_widths, registered_in}
+use Rattle.encoding.proofs.Signs.{signed-unsigned, unsigned-narrow, narrow-same}
 
--- an aggregate by its parts
-pub same-held : {a a' : ℕ} {b b' c c' d d' : ℤ} → a ≡ a' → b ≡ b' → c ≡ c' → d ≡ d'
-    → ◌≡◌ {A = Aggregate} (record { start = a; sum = b; maximum = c; minimum = d }) (record { start = a'; sum = b'; maximum = c'; minimum = d' })
-same-held e f g h = rw (e, f, g, h) refl
+-- ---- what is written is read again
 
--- numbers by their parts, as a state is written
-pub written_numbers : (st : State) {held : Aggregate} {count closed case start sum maximum minimum lap previous : ℕ}
-    → count ≡ st.count → closed ≡ st.board.closed → start ≡ held.start
-    → case ≡ case_of st.partial → held ≡ held_in st.partial → sum ≡ unsigned held.sum → maximum ≡ unsigned held.maximum → minimum ≡ unsigned held.minimum
-    → lap ≡ unsigned st.board.sums.lap → previous ≡ unsigned st.board.sums.previous
-    → (count
-    ∷ closed
-    ∷ case
-    ∷ start
-    ∷ sum
-    ∷ maximum
-    ∷ minimum
-    ∷ st.board.sums.ring.head
-    ∷ st.board.sums.ring.len
-    ∷ lap
-    ∷ previous
-    ∷ st.board.maxima.ring.head
-    ∷ st.board.maxima.ring.len
-    ∷ st.board.maxima.comparisons
-    ∷ st.board.minima.ring.head
-    ∷ st.board.minima.ring.len
-    ∷ st.board.minima.comparisons
-    ∷ st.registered
-    ∷ [])
-    ≡ numbers_of_state st
-unfolding numbers_of_state
-written_numbers st n p s k h a b c d e = rw (n, p, s, k, a, b, c, d, e, h) refl
-
--- what a state is within as the machine has it: the widths of its numbers
-pub record Within (st : State) : Type 0 where
+-- what a state and what its open partial holds are within as the machine has them: the widths of their numbers
+pub record WithinAt (st : State) (held : Aggregate) : Type 0 where
   pub count : st.count ≤ count_limit
   pub closed : st.board.closed ≤ count_limit
-  pub start : (held_in st.partial).start ≤ count_limit
-  pub maximum : SFits w32 (held_in st.partial).maximum
-  pub minimum : SFits w32 (held_in st.partial).minimum
+  pub start : held.start ≤ count_limit
+  pub maximum : SFits w32 held.maximum
+  pub minimum : SFits w32 held.minimum
+
+-- where that is what it holds
+abbrev pub Within : State → Type 0
+Within st = WithinAt st (held_in st.partial)
 
 -- a count is read as it is
 count_same : (n : ℕ) → n ≤ count_limit → count_in n ≡ n
 count_same n l = rw (le-leb n count_limit l) refl
 
--- so is a number of 32 bits
-narrow-same : (w : ℕ) → w < width32 → narrow w ≡ w
-narrow-same w l = rw (lt-ltb w width32 l) refl
+-- so is a signed number of 32 bits
+narrow_again : (z : ℤ) → SFits w32 z → signed (narrow (unsigned z)) ≡ z
+narrow_again z f = ap signed (narrow-same (unsigned z) (unsigned-narrow z f)) ∙ signed-unsigned z
 
 -- the open partial is read again
-open_again : (o : Open) (a : Aggregate) → a ≡ held_in o → open_of (case_of o) a ≡ o
-open_again Nothing a e = refl
-open_again Empty a e = refl
-open_again (Holding b) a e = ap Holding e
+open_again : (o : Open) → open_of (case_of o) (held_in o) ≡ o
+open_again Nothing = refl
+open_again Empty = refl
+open_again (Holding a) = refl
 
 case-few : (o : Open) → ltb (case_of o) 3 ≡ true
 case-few Nothing = refl
@@ -81,10 +50,7 @@ case-few (Holding a) = refl
 
 -- what it holds is read again
 held_again : (a : Aggregate) → a.start ≤ count_limit → SFits w32 a.maximum → SFits w32 a.minimum → held_of a.start (unsigned a.sum) (unsigned a.maximum) (unsigned a.minimum) ≡ a
-held_again a s f g =
-    same-held (count_same a.start s) (signed-unsigned a.sum)
-    (ap signed (narrow-same (unsigned a.maximum) (unsigned-narrow a.maximum f)) ∙ signed-unsigned a.maximum)
-    (ap signed (narrow-same (unsigned a.minimum) (unsigned-narrow a.minimum g)) ∙ signed-unsigned a.minimum)
+held_again a s f g = rw (count_same a.start s, signed-unsigned a.sum, narrow_again a.maximum f, narrow_again a.minimum g) refl
 
 -- how many queries are registered is read again
 registered_again : (st : State) → Within st → registered_in (numbers_of_state st) ≡ st.registered
@@ -109,7 +75,7 @@ parts_again st w =
       count_same st.count w.count,
       count_same st.board.closed w.closed,
       held_again (held_in st.partial) w.start w.maximum w.minimum,
-      open_again st.partial (held_in st.partial) refl,
+      open_again st.partial,
       signed-unsigned st.board.sums.lap,
       signed-unsigned st.board.sums.previous,
     )
@@ -120,7 +86,21 @@ pub state_again : (st : State) → Within st → state_of (numbers_of_state st) 
 unfolding state_of
 state_again st w = rw (registered_again st w) (parts_again st w)
 
--- eighteen of them
-pub numbers_eighteen : (st : State) → length (numbers_of_state st) ≡ state_numbers
+-- ---- what is written stands at the front
+
+-- nothing beyond the front is written
+front_kept : (front w w' : List ℕ) (k : ℕ) → length front ≡ k → k ≤ length w → w' ≡ front ++ drop k w → KeptBeyond k w w'
+front_kept front w w' k n l e =
+    record {
+      as_long = ap length e ∙ omega (arith, length-append front (drop k w), length-drop k w);
+      beyond = ap (drop k) e ∙ drop_at front (drop k w) k n;
+    }
+
+-- eighteen numbers of a state
+numbers_eighteen : (st : State) → length (numbers_of_state st) ≡ state_numbers
 unfolding numbers_of_state
 numbers_eighteen st = refl
+
+-- of a state
+pub state_kept : (st : State) (w w' : List ℕ) → state_numbers ≤ length w → w' ≡ numbers_of_state st ++ drop state_numbers w → KeptBeyond state_numbers w w'
+state_kept st w w' = front_kept (numbers_of_state st) w w' state_numbers (numbers_eighteen st)

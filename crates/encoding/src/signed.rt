@@ -2,24 +2,22 @@
 ghost use Rattle.std.specs.Prelude.{◌≡◌};
 ghost use Rattle.encoding.specs.Signed.{unsigned, signed};
 
-// The unsigned number of x.
+// The unsigned number of x. Its size is lessened before it is doubled: twice 2^63 does not fit.
 pub(crate) fn unsigned(x: i64) -> u64
     ensures { result ≡ unsigned x }
 {
     if x < 0 {
-        let size = ints::magnitude(x);
-        return 2 * (size - 1) + 1;
+        2 * (x.unsigned_abs() - 1) + 1
+    } else {
+        2 * x.unsigned_abs()
     }
-    2 * (x as u64)
 }
 
 // The signed number of w.
+#[tactic(auto, using(crate::proofs::Signs::halves))]
 pub(crate) fn signed(w: u64) -> i64
     ensures { result ≡ signed w }
 {
     let half = (w / 2) as i64;
-    if w % 2 == 0 {
-        return half;
-    }
-    (0 - half) - 1
+    if w % 2 == 0 { half } else { -half - 1 }
 }

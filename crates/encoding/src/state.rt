@@ -2,8 +2,9 @@
 // check 2 refuses.
 ghost use Rattle.std.specs.Prelude.{◌≡◌, ◌&&◌, ◌++◌, ◌≤◌, length, take, drop};
 ghost use Rattle.encoding.specs.Signed.{signed};
-ghost use Rattle.encoding.specs.Written.{state_numbers, is_count, count_in, case_of, held_in, numbers_of_state, narrow, open_of, held_of, sums_of, deque_of, board_of, state_of, within_widths, registered_in};
+ghost use Rattle.encoding.specs.Written.{state_numbers, count_in, held_in, numbers_of_state, narrow, open_of, held_of, sums_of, deque_of, board_of, state_of, within_widths, registered_in};
 
+use crate::cases::Case;
 use crate::signed::{signed, unsigned};
 use board::aggregate::Aggregate;
 use board::board::Board;
@@ -13,55 +14,35 @@ use deque::sums::Sums;
 use engine::partial::Open;
 use engine::state::State;
 use registry::list::RECORDS;
-use window::count::{COUNT_LIMIT, Count, wide};
+use window::count::Count;
 
 // How many numbers a state is written as.
 pub const STATE_NUMBERS: usize = 18;
 
-// The numbers of 32 bits are those below this one.
-pub const WIDTH_32: u64 = 4_294_967_296;
-
-// Whether a number is within the width of a count.
-fn is_count(w: u64) -> bool
-    ensures { result ≡ is_count w }
-{
-    w <= wide(COUNT_LIMIT)
-}
-
-// A count, as it is; a number outside its width is read as 0. The only cast to a count here.
+// A count, as it is; a number outside its width is read as 0. No other function here makes a count of a number.
 fn count_in(w: u64) -> Count
     ensures { result ≡ count_in w }
 {
-    if is_count(w) { w as Count } else { 0 }
+    Count::try_from(w).unwrap_or(0)
 }
 
-// A number of 32 bits, as it is; any other is read as 0.
-fn narrow(w: u64) -> u32
-    ensures { result ≡ narrow w }
-{
-    if w < WIDTH_32 { w as u32 } else { 0 }
-}
-
-// A signed number of 32 bits.
+// A signed number of 32 bits; any other is read as 0.
+#[tactic(auto, using(crate::proofs::Signs::narrowing))]
 fn narrow_signed(w: u64) -> i32
     ensures { result ≡ signed (narrow w) }
 {
-    let kept = narrow(w);
-    let wide = signed(kept as u64);
-    wide as i32
+    i32::try_from(signed(w)).unwrap_or(0)
 }
 
-// The open partial of a case that holds this.
+// The open partial of a case that holds this. A case above 2 is refused by its width.
 fn open_of(case: u64, held: Aggregate) -> Open
     ensures { result ≡ open_of case held }
 {
-    if case == 0 {
-        return Open::Nothing;
+    match Case::try_from(case) {
+        Ok(Case::Nothing) => Open::Nothing,
+        Ok(Case::Empty) => Open::Empty,
+        Ok(Case::Holding) | Err(()) => Open::Holding(held),
     }
-    if case == 1 {
-        return Open::Empty;
-    }
-    Open::Holding(held)
 }
 
 // What an open partial holds, by start, sum, maximum and minimum.
@@ -76,16 +57,22 @@ fn held_of(start: u64, sum: u64, maximum: u64, minimum: u64) -> Aggregate
     }
 }
 
+// A ring, by its head and length.
+fn ring_of(head: u64, len: u64) -> Ring
+    ensures { (result.head ≡ head) × (result.len ≡ len) }
+{
+    Ring {
+        head: head as usize,
+        len: len as usize,
+    }
+}
+
 // The closed partials with their sums, by head and length of their ring, and the sums of two laps.
 fn sums_of(head: u64, len: u64, lap: u64, previous: u64) -> Sums
     ensures { result ≡ sums_of head len lap previous }
 {
-    let ring = Ring {
-        head: head as usize,
-        len: len as usize,
-    };
     Sums {
-        ring,
+        ring: ring_of(head, len),
         lap: signed(lap),
         previous: signed(previous),
     }
@@ -95,68 +82,54 @@ fn sums_of(head: u64, len: u64, lap: u64, previous: u64) -> Sums
 fn deque_of(head: u64, len: u64, comparisons: u64) -> Deque
     ensures { result ≡ deque_of head len comparisons }
 {
-    let ring = Ring {
-        head: head as usize,
-        len: len as usize,
-    };
-    Deque { ring, comparisons }
+    Deque {
+        ring: ring_of(head, len),
+        comparisons,
+    }
 }
 
 // The board that these numbers are read as.
 #[tactic(auto, unfolding(crate::specs::Written::board_of))]
-fn board_of(w: [u64; 18]) -> Board
+fn board_of(w: [u64; STATE_NUMBERS]) -> Board
     ensures { result ≡ board_of w }
 {
-    let sums = sums_of(w[7], w[8], w[9], w[10]);
-    let maxima = deque_of(w[11], w[12], w[13]);
-    let minima = deque_of(w[14], w[15], w[16]);
     Board {
         closed: count_in(w[1]),
-        sums,
-        maxima,
-        minima,
+        sums: sums_of(w[7], w[8], w[9], w[10]),
+        maxima: deque_of(w[11], w[12], w[13]),
+        minima: deque_of(w[14], w[15], w[16]),
     }
 }
 
 // The state that these numbers are read as.
 #[tactic(auto, unfolding(crate::specs::Written::state_of))]
-fn state_of(w: [u64; 18]) -> State
+fn state_of(w: [u64; STATE_NUMBERS]) -> State
     ensures { result ≡ state_of w }
 {
-    let held = held_of(w[3], w[4], w[5], w[6]);
-    let partial = open_of(w[2], held);
-    let board = board_of(w);
     State {
         count: count_in(w[0]),
         registered: registered_in(w),
-        partial,
-        board,
+        partial: open_of(w[2], held_of(w[3], w[4], w[5], w[6])),
+        board: board_of(w),
     }
-}
-
-// Both of two tests.
-fn also(test: bool, rest: bool) -> bool
-    ensures { result ≡ (test && rest) }
-{
-    if test { rest } else { false }
 }
 
 // Whether each number is within the width of what it stands for.
 #[tactic(auto, unfolding(crate::specs::Written::within_widths))]
-fn within_widths(w: [u64; 18]) -> bool
+fn within_widths(w: [u64; STATE_NUMBERS]) -> bool
     ensures { result ≡ within_widths w }
 {
-    let rest = w[6] < WIDTH_32;
-    let rest = also(w[5] < WIDTH_32, rest);
-    let rest = also(is_count(w[3]), rest);
-    let rest = also(w[2] < 3, rest);
-    let rest = also(is_count(w[1]), rest);
-    also(is_count(w[0]), rest)
+    Count::try_from(w[0]).is_ok()
+        && Count::try_from(w[1]).is_ok()
+        && Case::try_from(w[2]).is_ok()
+        && Count::try_from(w[3]).is_ok()
+        && u32::try_from(w[5]).is_ok()
+        && u32::try_from(w[6]).is_ok()
 }
 
 // How many queries are registered: 33 where a number is outside the width of what it stands for.
 #[tactic(auto, unfolding(crate::specs::Written::registered_in))]
-fn registered_in(w: [u64; 18]) -> usize
+fn registered_in(w: [u64; STATE_NUMBERS]) -> usize
     ensures { result ≡ registered_in w }
 {
     if within_widths(w) {
@@ -165,82 +138,53 @@ fn registered_in(w: [u64; 18]) -> usize
     RECORDS + 1
 }
 
-// The number of an open partial's case.
-fn case_of(partial: Open) -> u64
-    ensures { result ≡ case_of partial }
-{
-    match partial {
-        Open::Nothing => 0,
-        Open::Empty => 1,
-        Open::Holding(_) => 2,
-    }
-}
-
 // What an open partial holds: 0 where it holds nothing.
 fn held_in(partial: Open) -> Aggregate
     ensures { result ≡ held_in partial }
 {
-    let nothing = Aggregate {
-        start: 0,
-        sum: 0,
-        maximum: 0,
-        minimum: 0,
-    };
     match partial {
-        Open::Nothing => nothing,
-        Open::Empty => nothing,
+        Open::Nothing | Open::Empty => Aggregate {
+            start: 0,
+            sum: 0,
+            maximum: 0,
+            minimum: 0,
+        },
         Open::Holding(held) => held,
     }
 }
 
 // The numbers of a state. They are read again as that state.
-fn numbers_of(state: State) -> [u64; 18]
+fn numbers_of(state: State) -> [u64; STATE_NUMBERS]
     ensures written { result ≡ numbers_of_state state }
     ensures read { state_of result ≡ state }
 {
-    let partial = state.partial;
-    let held = held_in(partial);
-    let board = state.board;
-    let sums = board.sums;
-    let sums_ring = sums.ring;
-    let maxima = board.maxima;
-    let maxima_ring = maxima.ring;
-    let minima = board.minima;
-    let minima_ring = minima.ring;
+    let held = held_in(state.partial);
+    let Board {
+        closed,
+        sums,
+        maxima,
+        minima,
+    } = state.board;
     [
-        wide(state.count),
-        wide(board.closed),
-        case_of(partial),
-        wide(held.start),
+        u64::from(state.count),
+        u64::from(closed),
+        u64::from(Case::from(state.partial)),
+        u64::from(held.start),
         unsigned(held.sum),
-        unsigned(held.maximum as i64),
-        unsigned(held.minimum as i64),
-        sums_ring.head as u64,
-        sums_ring.len as u64,
+        unsigned(i64::from(held.maximum)),
+        unsigned(i64::from(held.minimum)),
+        sums.ring.head as u64,
+        sums.ring.len as u64,
         unsigned(sums.lap),
         unsigned(sums.previous),
-        maxima_ring.head as u64,
-        maxima_ring.len as u64,
+        maxima.ring.head as u64,
+        maxima.ring.len as u64,
         maxima.comparisons,
-        minima_ring.head as u64,
-        minima_ring.len as u64,
+        minima.ring.head as u64,
+        minima.ring.len as u64,
         minima.comparisons,
         state.registered as u64,
     ]
-}
-
-// The first 18 numbers.
-fn load_numbers(words: &[u64]) -> [u64; 18]
-    requires { state_numbers ≤ length words.now }
-    ensures { result ≡ take state_numbers words.now }
-{
-    let mut w = [0; 18];
-    let mut i = 0;
-    while i < STATE_NUMBERS {
-        w[i] = words[i];
-        i += 1;
-    }
-    w
 }
 
 // The state that the first 18 numbers are read as.
@@ -248,20 +192,9 @@ pub fn load_state(words: &[u64]) -> State
     requires { state_numbers ≤ length words.now }
     ensures { result ≡ state_of (take state_numbers words.now) }
 {
-    let w = load_numbers(words);
+    let mut w = [0; STATE_NUMBERS];
+    w.copy_from_slice(&words[..STATE_NUMBERS]);
     state_of(w)
-}
-
-// These numbers stand at the front.
-fn store_numbers(words: &mut [u64], w: [u64; 18])
-    requires { state_numbers ≤ length words.old }
-    ensures { words.new ≡ w ++ drop state_numbers words.old }
-{
-    let mut i = 0;
-    while i < STATE_NUMBERS {
-        words[i] = w[i];
-        i += 1;
-    }
 }
 
 // The state is written: it is read again as it was.
@@ -270,6 +203,5 @@ pub fn store_state(words: &mut [u64], state: State)
     ensures written { words.new ≡ numbers_of_state state ++ drop state_numbers words.old }
     ensures read { state_of (take state_numbers words.new) ≡ state }
 {
-    let w = numbers_of(state);
-    store_numbers(words, w);
+    words[..STATE_NUMBERS].copy_from_slice(&numbers_of(state));
 }

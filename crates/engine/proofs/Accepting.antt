@@ -1,5 +1,6 @@
 -- How an accepted call comes to what it promises: one law a call.
 -- Assumes nothing.
+use Rattle.std.specs.Prelude.{Ok}
 use mathlib.Core.Path.{◌≡◌, refl, sym, ap, ◌∙◌, subst}
 use mathlib.Core.Bool.{Bool, true, false, true≢false, not}
 use mathlib.Core.List.{List, [], ◌∷◌, ◌++◌, map}
@@ -7,11 +8,9 @@ use Prim.Native.Nat.{ℕ, ◌+◌, ◌*◌, ◌<◌}
 use lib.IntN.{ℤ}
 use lib.ListN.{length, length-append, length-map, drop}
 use Rattle.window.specs.declared.query.Query.{Query}
-use Rattle.window.specs.declared.refusal.Verdict.{Verdict}
-use Rattle.window.specs.declared.refusal.Verdict.TheVariants.{Passed}
 use Rattle.window.specs.Lists.{filter, any, Each}
 use Rattle.window.specs.Queries.{Limits, edge, horizon}
-use Rattle.window.specs.Refusals.{has_number, due_at, answer_places}
+use Rattle.window.specs.Refusals.{Verdict, has_number, due_at, answer_places}
 use Rattle.window.specs.Calls.{IsReading, Call, register, withdraw, reading, totals, OfReading, Answer, accepted}
 use Rattle.window.specs.Model as model
 use Rattle.window.specs.Model.{count, initial, after_register, after_withdraw, after_reading, answers, Stepped, answered, totals_of, judged, new_query, step}
@@ -25,18 +24,13 @@ use Rattle.registry.specs.Records.{used, ListKept}
 use Rattle.registry.specs.Edits.{Appended, Withdrawn, Cleared}
 use Rattle.registry.proofs.Intact.{used-count, fits-limits, fits-ordered}
 use Rattle.registry.proofs.Ordering.{nothing_ordered}
-use Rattle.engine.specs.declared.partial.Open.TheVariants.{Empty}
-use Rattle.engine.specs.declared.calls.Answered.{Answered}
-use Rattle.engine.specs.declared.calls.ReadingReply.{ReadingReply}
-use Rattle.engine.specs.declared.calls.Reply.{Reply}
 use Rattle.engine.specs.declared.state.State.{State}
 use Rattle.board.specs.Tables.{Tables, zeroed_tables, TablesKept}
 use Rattle.engine.specs.States.{Judged, FreshState, with_reading, with_one_more, left_with}
 use Rattle.engine.specs.Closings.{OpenClosed, ClosedWhere}
 use Rattle.engine.specs.Answers.{places, answered_places, answers_in, answer_in, Backing}
 use Rattle.engine.specs.Machine.{Machine, machine, queries_of, machine_long, closed_of, ledger_of, ListIs, StateIs, Represents}
-use Rattle.engine.specs.Outcomes.{verdict_outcome, reading_outcome}
-use Rattle.engine.specs.Promises.{Promise, verdict_of, Passes, Ensures, ReadingEnsures, StartEnsures}
+use Rattle.engine.specs.Promises.{verdict_of, Passes, Ensures, ReadingEnsures, StartEnsures}
 use Rattle.engine.proofs.Refinement.{read_is}
 use Rattle.engine.proofs.Registration.{registered_is, withdrawn_is, fresh_is}
 use Rattle.engine.proofs.Answering.{backing, answers_are}
@@ -50,11 +44,11 @@ use Rattle.engine.proofs.Taking.{taken-count}
 -- ---- acceptances
 
 -- so it is where the verdict on checks 1, 2 and the call's own passes
-pub all_pass : (c : Call) (m : Machine) (long : Bool) (w : Verdict) → long ≡ machine_long m
-    → Judged long m.state m.list (verdict_of c m.state.count (queries_of m)) w → w ≡ Passed → Passes c m
-all_pass c m long w same j e =
-    let p = judged_passed long m.state m.list (verdict_of c m.state.count (queries_of m)) w j e in
-    record { long = sym same ∙ p.0; intact = p.1; own = p.2 }
+pub all_pass : (c : Call) (m : Machine) (w : Verdict)
+    → Judged (machine_long m) m.state m.list (verdict_of c m.state.count (queries_of m)) w → w ≡ Ok tt → Passes c m
+all_pass c m w j e =
+    let p = judged_passed (machine_long m) m.state m.list (verdict_of c m.state.count (queries_of m)) w j e in
+    record { long = p.0; intact = p.1; own = p.2 }
 
 -- then the model's step is the accepted one
 step-accepted : (c : Call) (m : Machine) → Passes c m → (s : model.State) → Represents s m → step s c ≡ accepted_step s c
@@ -87,11 +81,6 @@ accepted-call c m ns given m' passes small listed kept lists state outcome =
       list_kept = listed;
       kept = kept;
     }
-
--- what an accepted start, registration or withdrawal hands back is the state after it
-pub accepted_reply : {m : Machine} {l : List ℕ} {t : Tables} (promise : Promise) (st : State) (reply : Reply) → reply ≡ record { verdict = Passed; state = st }
-    → promise m (accepted (0 ∷ []) []) (machine st l t) → promise m (verdict_outcome reply.verdict) (machine reply.state l t)
-accepted_reply {m} {l} {t} promise st reply is p = subst (λ (r : Reply). promise m (verdict_outcome r.verdict) (machine r.state l t)) (sym is) p
 
 -- the query that a registration brings to the engine
 abbrev pub joining : (number kind range slide origin : ℕ) → Query
@@ -200,12 +189,11 @@ uncut-taken v before m taken is e =
 -- a reading that every check passes
 pub accepted-reading : (v : ℤ) (before after : List ℤ) (m : Machine) (k : ℕ) (given : List Answer) (st' : State) (t' : Tables)
     → Passes (reading v (length before)) m
-    → IsReading v → ReadingTaken v before after m k given st' t' → (reply : ReadingReply) → reply ≡ record { outcome = Answered.Answers k; state = st' }
-    → ReadingEnsures v before after m (reading_outcome reply.outcome after) (machine reply.state m.list t')
+    → IsReading v → ReadingTaken v before after m k given st' t'
+    → ReadingEnsures v before after m (accepted (k ∷ []) (answers_in k after)) (machine st' m.list t')
 unfolding answered ClosedWhere
-accepted-reading v before after m k given st' t' passed small took reply returned =
-    subst (λ (x : ReadingReply). ReadingEnsures v before after m (reading_outcome x.outcome after) (machine x.state m.list t')) (sym returned)
-    (record {
+accepted-reading v before after m k given st' t' passed small took =
+    record {
       ensures = accepted-call c m (k ∷ []) (answers_in k after) (machine st' m.list t') passed small (list_same m.list)
           (closed_where_kept (any (edge (m.state.count + 1)) (queries_of m)) (horizon (m.state.count + 1) (queries_of m)) (with_reading v m.state) m.tables st' t' took.closed)
           (λ s rep. subst (λ (k : ℕ). ListIs (after_reading s v) k m.list) (sym registered)
@@ -220,7 +208,7 @@ accepted-reading v before after m k given st' t' passed small took reply returne
       places = took.written ∙ sym (ap (λ (x : List Answer). answered_places x before) reads);
       uncut = λ e. (subst (λ (b : Bool). ClosedWhere b (horizon (m.state.count + 1) (queries_of m)) (with_reading v m.state) m.tables st' t') e took.closed).1;
       alone = registered;
-    })
+    }
   where
     c : Call
     c = reading v (length before)

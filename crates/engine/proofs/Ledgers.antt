@@ -4,12 +4,12 @@
 use mathlib.Core.Path.{◌≡◌, refl, ap}
 use mathlib.Core.Bool.{Bool}
 use mathlib.Core.List.{List, [], ◌∷◌, ◌++◌, map}
-use Prim.Native.Nat.{ℕ, ◌+◌}
+use Prim.Native.Nat.{ℕ}
 use native.Mathlib.Omega.{arith}
 use lib.IntN.{ℤ}
 use lib.Signed.{le_z}
 use lib.ListN.{length}
-use Rattle.window.specs.Orders.{ge_z, sum, extreme, maximum, minimum}
+use Rattle.window.specs.Orders.{ge_z, extreme}
 use Rattle.window.specs.Queries.{horizon}
 use Rattle.window.specs.Partials.{Partial, spanning, readings_of, entries, live, partials_from, value_of}
 use Rattle.window.specs.Model as model

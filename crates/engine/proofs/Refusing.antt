@@ -1,15 +1,13 @@
 -- How a refused call comes to what it promises.
 -- Assumes nothing.
+use Rattle.std.specs.Prelude.{Result, Err}
 use mathlib.Core.Path.{◌≡◌, refl, sym, ap, ◌∙◌, subst}
-use mathlib.Core.Bool.{Bool, true, false, true≢false}
+use mathlib.Core.Bool.{true, false, true≢false}
 use mathlib.Core.List.{List}
 use lib.IntN.{ℤ}
 use lib.ListN.{length}
 use Rattle.window.specs.declared.refusal.Refusal.{Refusal}
-use Rattle.window.specs.declared.refusal.Refusal.TheVariants.{TableTooShort}
-use Rattle.window.specs.declared.refusal.Verdict.{Verdict}
-use Rattle.window.specs.declared.refusal.Verdict.TheVariants.{Refused}
-use Rattle.window.specs.Refusals.{refusal_number, first_refusal, reading_checks}
+use Rattle.window.specs.Refusals.{Verdict, refusal_number, first_refusal, reading_checks}
 use Rattle.window.specs.Calls.{Call, start, reading, refused}
 use Rattle.window.specs.Model as model
 use Rattle.window.specs.Model.{count, Stepped, judged, step}
@@ -17,13 +15,10 @@ use Rattle.window.proofs.Refusals.{refused-same, refused_passed}
 use Rattle.window.proofs.Steps.{number_of}
 use Rattle.registry.proofs.Intact.{fits-ordered}
 use Rattle.engine.specs.declared.calls.Answered.{Answered}
-use Rattle.engine.specs.declared.calls.ReadingReply.{ReadingReply}
-use Rattle.engine.specs.declared.calls.Reply.{Reply}
 use Rattle.engine.specs.declared.state.State.{State}
 use Rattle.engine.specs.States.{Judged, is_short, is_damaged, is_judged}
-use Rattle.engine.specs.Answers.{places}
 use Rattle.engine.specs.Machine.{Machine, machine, queries_of, machine_long, Represents}
-use Rattle.engine.specs.Outcomes.{verdict_outcome, reading_outcome}
+use Rattle.engine.specs.Outcomes.{state_outcome, state_after, answers_written, reading_outcome, reading_state}
 use Rattle.engine.specs.Promises.{InRows, verdict_of, Ensures, ReadingEnsures, StartEnsures}
 use Rattle.engine.proofs.Soundness.{represents-intact}
 use Rattle.engine.proofs.Listing.{list_same, intact_undamaged}
@@ -31,11 +26,11 @@ use Rattle.engine.proofs.Stepping.{accepted_step, step-judged, own_row, same_ver
 use Rattle.board.proofs.Lending.{tables-same}
 
 -- a call other than start that any check refuses
-pub refused-call : (c : Call) (m : Machine) (long : Bool) (w : Verdict) (r : Refusal) → InRows c 1 → InRows c 2
-    → long ≡ machine_long m → Judged long m.state m.list (verdict_of c m.state.count (queries_of m)) w
-    → w ≡ Refused r → Ensures c m (refused (refusal_number r)) m
-refused-call c m long w r one two same (is_short f) i =
-    let e : machine_long m ≡ false = sym same ∙ f in
+pub refused-call : (c : Call) (m : Machine) (w : Verdict) (r : Refusal) → InRows c 1 → InRows c 2
+    → Judged (machine_long m) m.state m.list (verdict_of c m.state.count (queries_of m)) w
+    → w ≡ Err r → Ensures c m (refused (refusal_number r)) m
+refused-call c m w r one two (is_short f) i =
+    let e : machine_long m ≡ false = f in
     let n : 1 ≡ refusal_number r = ap refusal_number (refused-same _ r i) in
     record {
       short = λ k. ap refused (sym n);
@@ -49,8 +44,8 @@ refused-call c m long w r one two same (is_short f) i =
       list_kept = list_same m.list;
       kept = tables-same m.tables;
     }
-refused-call c m long w r one two same (is_damaged l f) i =
-    let e : machine_long m ≡ true = sym same ∙ l in
+refused-call c m w r one two (is_damaged l f) i =
+    let e : machine_long m ≡ true = l in
     let n : 2 ≡ refusal_number r = ap refusal_number (refused-same _ r i) in
     record {
       short = λ k. absurd (true≢false (sym e ∙ k));
@@ -64,8 +59,8 @@ refused-call c m long w r one two same (is_damaged l f) i =
       list_kept = list_same m.list;
       kept = tables-same m.tables;
     }
-refused-call c m long w r one two same (is_judged l f) i =
-    let e : machine_long m ≡ true = sym same ∙ l in
+refused-call c m w r one two (is_judged l f) i =
+    let e : machine_long m ≡ true = l in
     record {
       short = λ k. absurd (true≢false (sym e ∙ k));
       broken = λ k d. absurd (true≢false (sym d ∙ intact_undamaged m k f));
@@ -82,33 +77,27 @@ refused-call c m long w r one two same (is_judged l f) i =
     step-refused : (s : model.State) → Represents s m → step s c ≡ record { state = s; outcome = refused (refusal_number r) }
     step-refused s rep = step-judged s c ∙ ap (λ (x : Verdict). judged x s (accepted_step s c)) (sym (same_verdict c s m rep) ∙ i)
 
--- what a refused call hands back is what it was given
-abbrev refused_with : Refusal → Machine → Reply
-refused_with r m = record { verdict = Refused r; state = m.state }
-
--- a refused registration or withdrawal, by what it handed back
-pub refused_reply : (c : Call) (m : Machine) (long : Bool) (w : Verdict) (r : Refusal) (reply : Reply) → InRows c 1 → InRows c 2
-    → long ≡ machine_long m → Judged long m.state m.list (verdict_of c m.state.count (queries_of m)) w
-    → w ≡ Refused r → reply ≡ refused_with r m → Ensures c m (verdict_outcome reply.verdict) (machine reply.state m.list m.tables)
-refused_reply c m long w r reply one two same j i is =
-    subst (λ (x : Reply). Ensures c m (verdict_outcome x.verdict) (machine x.state m.list m.tables)) (sym is)
-    (refused-call c m long w r one two same j i)
+-- a registration or withdrawal that any check refuses, by what it returned
+pub refused_reply : (c : Call) (m : Machine) (w : Verdict) (r : Refusal) (result : Result State Refusal) → InRows c 1 → InRows c 2
+    → Judged (machine_long m) m.state m.list (verdict_of c m.state.count (queries_of m)) w
+    → w ≡ Err r → result ≡ Err r → Ensures c m (state_outcome result) (machine (state_after m.state result) m.list m.tables)
+refused_reply c m w r result one two j i is =
+    subst (λ (x : Result State Refusal). Ensures c m (state_outcome x) (machine (state_after m.state x) m.list m.tables)) (sym is)
+    (refused-call c m w r one two j i)
 
 -- a reading that any check refuses writes no place
-pub refused-reading : (v : ℤ) (before : List ℤ) (m : Machine) (long : Bool) (w : Verdict) (r : Refusal)
-    → long ≡ machine_long m → Judged long m.state m.list (first_refusal (reading_checks m.state.count (queries_of m) (length before))) w
-    → w ≡ Refused r → (reply : ReadingReply) → reply ≡ record { outcome = Answered.Refused r; state = m.state }
-    → ReadingEnsures v before before m (reading_outcome reply.outcome before) (machine reply.state m.list m.tables)
-refused-reading v before m long w r same j i reply is =
-    subst (λ (x : ReadingReply). ReadingEnsures v before before m (reading_outcome x.outcome before) (machine x.state m.list m.tables)) (sym is)
-    (record { ensures = refused-call (reading v (length before)) m long w r refl refl same j i; places = refl; uncut = λ e. refl; alone = refl })
+pub refused-reading : (v : ℤ) (before : List ℤ) (m : Machine) (w : Verdict) (r : Refusal) (result : Result Answered Refusal)
+    → Judged (machine_long m) m.state m.list (first_refusal (reading_checks m.state.count (queries_of m) (length before))) w
+    → w ≡ Err r → result ≡ Err r
+    → ReadingEnsures v before before m (reading_outcome (answers_written result) before) (machine (reading_state m.state result) m.list m.tables)
+refused-reading v before m w r result j i is =
+    subst (λ (x : Result Answered Refusal). ReadingEnsures v before before m (reading_outcome (answers_written x) before) (machine (reading_state m.state x) m.list m.tables)) (sym is)
+    (record { ensures = refused-call (reading v (length before)) m w r refl refl j i; places = refl; uncut = λ e. refl; alone = refl })
 
 -- a start that check 1 refuses
-pub refused-start : (m : Machine) (reply : Reply) → machine_long m ≡ false → reply ≡ refused_with TableTooShort m
-    → StartEnsures m (verdict_outcome reply.verdict) (machine reply.state m.list m.tables)
-refused-start m reply e is =
-    subst (λ (x : Reply). StartEnsures m (verdict_outcome x.verdict) (machine x.state m.list m.tables)) (sym is)
-    (record {
+pub refused-start : (m : Machine) → machine_long m ≡ false → StartEnsures m (refused 1) m
+refused-start m e =
+    record {
       short = λ k. refl;
       accepts = λ k. absurd (true≢false (sym k ∙ e));
       represents = λ k. absurd (true≢false (sym k ∙ e));
@@ -116,4 +105,4 @@ refused-start m reply e is =
       list_kept = list_same m.list;
       unchanged = λ k j. refl;
       own = λ k j. subst (InRows start) (ap number_of j) refl;
-    })
+    }

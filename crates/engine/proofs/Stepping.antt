@@ -1,18 +1,16 @@
 -- The model's step as a verdict and what follows on acceptance, and the numbers in a call's own rows.
 -- Assumes nothing.
+use Rattle.std.specs.Prelude.{Err}
 use mathlib.Core.Path.{◌≡◌, refl, sym}
 use mathlib.Core.List.{List}
 use Prim.Native.Nat.{ℕ}
 use Rattle.window.specs.declared.query.Query.{Query}
 use Rattle.window.specs.declared.refusal.Refusal.{Refusal}
-use Rattle.window.specs.declared.refusal.Verdict.TheVariants.{Refused}
 use Rattle.window.specs.Refusals.{refusal_number, name_checks, length_checks, field_checks, list_checks, register_checks, withdraw_checks, count_checks, places_checks, reading_checks, reading_checks_at}
 use Rattle.window.specs.Calls.{Call, start, register, withdraw, reading, totals}
 use Rattle.window.specs.Model as model
 use Rattle.window.specs.Model.{count, initial, after_register, after_withdraw, after_reading, Stepped, done, answered, totals_of, judged, new_query, step, step_at}
 use Rattle.window.proofs.Refusals.{refused_passed, refusal_each}
-use Rattle.registry.specs.Records.{used}
-use Rattle.engine.specs.declared.state.State.{State}
 use Rattle.engine.specs.Answers.{places}
 use Rattle.engine.specs.Machine.{Machine, queries_of, Represents}
 use Rattle.engine.specs.Promises.{InRows, verdict_of}
@@ -39,7 +37,7 @@ step-judged s totals = refl
 -- ---- a call's own rows
 
 -- the number of a refusal by a call's own checks is in its rows
-pub own_row : (c : Call) (n : ℕ) (qs : List Query) (r : Refusal) → verdict_of c n qs ≡ Refused r → InRows c (refusal_number r)
+pub own_row : (c : Call) (n : ℕ) (qs : List Query) (r : Refusal) → verdict_of c n qs ≡ Err r → InRows c (refusal_number r)
 unfolding register_checks field_checks name_checks length_checks list_checks withdraw_checks reading_checks_at count_checks places_checks
 own_row start n qs r e = refused_passed r (sym e)
 own_row (register number kind range slide) n qs r e =

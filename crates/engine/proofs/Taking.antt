@@ -13,7 +13,6 @@ use Rattle.window.specs.Queries.{count_limit, edge, horizon}
 use Rattle.window.specs.Refusals.{answer_places, due_at}
 use Rattle.window.specs.Calls.{IsReading, Answer}
 use Rattle.window.proofs.Lists.{each_map}
-use Rattle.registry.specs.Records.{used}
 use Rattle.board.specs.declared.board.Board.{Board}
 use Rattle.board.specs.Boards.{Usable}
 use Rattle.engine.specs.declared.partial.Open.{Open}
@@ -73,8 +72,10 @@ open_left (Holding a) h st t st' t' r c =
 pub due_fit : (n m places : ℕ) (qs : List Query) → m ≡ n + 1 → answer_places * length (due_at (n + 1) qs) ≤ places → answer_places * length (due_at m qs) ≤ places
 due_fit n m places qs e l = rw e l
 
--- the answers of as many queries are the same
-pub answers_of : {b : Board} {t : Tables} {given : List Answer} (n k k' : ℕ) (l : List ℕ) → k ≡ k'
-    → ((x : Backing n (used k l) b t) → given ≡ map (answer_in x.ledger.closed n) (due_at n (used k l)))
-    → (x : Backing n (used k' l) b t) → given ≡ map (answer_in x.ledger.closed n) (due_at n (used k' l))
-answers_of {b} {t} {given} n k k' l e f = subst (λ (j : ℕ). (x : Backing n (used j l) b t) → given ≡ map (answer_in x.ledger.closed n) (due_at n (used j l))) e f
+-- the answers of the same queries, on the same tables
+pub answers_for : {b : Board} {given : List Answer} (n : ℕ) (qs qs' : List Query) (t t' : Tables) → qs ≡ qs' → t ≡ t'
+    → ((x : Backing n qs b t) → given ≡ map (answer_in x.ledger.closed n) (due_at n qs))
+    → (x : Backing n qs' b t') → given ≡ map (answer_in x.ledger.closed n) (due_at n qs')
+answers_for {b} {given} n qs qs' t t' e f h =
+    subst (λ (ys : List Query). (x : Backing n ys b t') → given ≡ map (answer_in x.ledger.closed n) (due_at n ys)) e
+    (subst (λ (u : Tables). (x : Backing n qs b u) → given ≡ map (answer_in x.ledger.closed n) (due_at n qs)) f h)

@@ -2,13 +2,13 @@
 -- return the same numbers and answers, and end alike. It is stated of whatever a caller holds that stands for a
 -- machine, so that the layers above instantiate it; `proofs/Agreement.antt` proves it of the engine.
 -- Assumes nothing.
-use Rattle.std.specs.Prelude.{ℕ, ◌*◌, ◌-◌, ◌≤◌, ◌≡◌, Bool, true, List, [], ◌∷◌, ℤ, length}
+use Rattle.std.specs.Prelude.{ℕ, ◌*◌, ◌-◌, ◌≤◌, ◌≡◌, Bool, true, List, [], ◌∷◌, ℤ, length, Result}
 use Rattle.window.specs.Queries.{count_limit}
 use Rattle.window.specs.Calls.{Call, start, register, withdraw, reading, totals, Outcome, refused}
 use Rattle.window.specs.Model.{count, initial, totals_of, Ran, run, reached}
 use Rattle.registry.specs.Records.{Tidy}
 use Rattle.board.specs.Boards.{HoldsLive}
-use Rattle.engine.specs.declared.calls.Answered.{Answered}
+use Rattle.window.specs.declared.refusal.Refusal.{Refusal}
 use Rattle.engine.specs.Machine.{Machine, queries_of, machine_long, horizon_of, ledger_of, Represents}
 use Rattle.engine.specs.Outcomes.{reading_outcome}
 use Rattle.engine.specs.Promises.{Promise, EnsuresAt, ReadingEnsuresAt, StartEnsuresAt}
@@ -47,7 +47,7 @@ PerformsOn limit on reads tells totals m o m' = tells m o m'
 pub record Reads {M : Type 0} (promised : ℤ → List ℤ → List ℤ → M → Outcome → M → Type 0) (v : ℤ) (places : ℕ) (m : M) (o : Outcome) (m' : M) : Type 0 where
   pub before : List ℤ
   pub after : List ℤ
-  pub returned : Answered
+  pub returned : Result ℕ Refusal
   pub long : length before ≡ places
   pub read : o ≡ reading_outcome returned after
   pub ensures : promised v before after m o m'

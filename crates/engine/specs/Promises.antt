@@ -1,12 +1,10 @@
 -- What the open calls promise, for every input (document 01, "Conditions of acceptance").
 -- Assumes nothing.
-use Rattle.std.specs.Prelude.{ℕ, ◌+◌, ◌≡◌, Bool, true, false, List, [], ◌∷◌, eqb, ℤ, length}
+use Rattle.std.specs.Prelude.{ℕ, ◌+◌, ◌≡◌, Bool, true, false, List, [], ◌∷◌, eqb, ℤ, length, Ok}
 use Rattle.window.specs.Lists.{any}
 use Rattle.window.specs.Queries.{count_limit, edge}
 use Rattle.window.specs.declared.query.Query.{Query}
-use Rattle.window.specs.declared.refusal.Verdict.{Verdict}
-use Rattle.window.specs.declared.refusal.Verdict.TheVariants.{Passed}
-use Rattle.window.specs.Refusals.{damaged, first_refusal, register_checks, withdraw_checks, reading_checks_at}
+use Rattle.window.specs.Refusals.{Verdict, damaged, first_refusal, register_checks, withdraw_checks, reading_checks_at}
 use Rattle.window.specs.Calls.{Call, start, register, withdraw, reading, totals, Outcome, accepted, refused}
 use Rattle.window.specs.Model as model
 use Rattle.window.specs.Model.{initial, step_at}
@@ -43,11 +41,11 @@ list_damaged m = damaged m.state.count m.state.registered (queries_of m)
 
 -- what a call's own checks come to, with n readings taken and these queries registered
 abbrev pub verdict_at : ℕ → Call → ℕ → List Query → Verdict
-verdict_at limit start n qs = Passed
+verdict_at limit start n qs = Ok tt
 verdict_at limit (register number kind range slide) n qs = first_refusal (register_checks qs number kind range slide)
 verdict_at limit (withdraw number) n qs = first_refusal (withdraw_checks qs number)
 verdict_at limit (reading v places) n qs = first_refusal (reading_checks_at limit n qs places)
-verdict_at limit totals n qs = Passed
+verdict_at limit totals n qs = Ok tt
 
 -- with the limit of this form
 abbrev pub verdict_of : Call → ℕ → List Query → Verdict
@@ -57,7 +55,7 @@ verdict_of c n qs = verdict_at count_limit c n qs
 pub record PassesAt (limit : ℕ) (c : Call) (m : Machine) : Type 0 where
   pub long : machine_long m ≡ true
   pub intact : Intact m.state m.list
-  pub own : verdict_at limit c m.state.count (queries_of m) ≡ Passed
+  pub own : verdict_at limit c m.state.count (queries_of m) ≡ Ok tt
 
 -- with the limit of this form
 abbrev pub Passes : Call → Machine → Type 0

@@ -1,11 +1,11 @@
 -- The engine's state: what check 2 asks of it, and what a start, a reading and a withdrawal make of it.
 -- Assumes nothing.
-use Rattle.std.specs.Prelude.{ℕ, ◌+◌, ◌≤◌, ◌≡◌, Bool, true, false, List, ℤ}
+use Rattle.std.specs.Prelude.{ℕ, ◌+◌, ◌≤◌, ◌≡◌, Bool, true, false, List, ℤ, Err}
 use Rattle.window.specs.declared.refusal.Refusal.TheVariants.{TableTooShort, Damaged}
-use Rattle.window.specs.declared.refusal.Verdict.{Verdict}
-use Rattle.window.specs.declared.refusal.Verdict.TheVariants.{Refused}
+use Rattle.window.specs.Refusals.{Verdict}
 use Rattle.board.specs.Boards.{Within, EmptyEnsures}
 use Rattle.registry.specs.Records.{list_fits}
+use Rattle.registry.specs.declared.list.Checked.{Checked}
 use Rattle.engine.specs.declared.partial.Open.TheVariants.{Nothing, Empty}
 use Rattle.engine.specs.declared.state.State.{State}
 use Rattle.engine.specs.Open.{open_with, open_while, FitsOpen}
@@ -26,9 +26,14 @@ pub record Intact (st : State) (l : List ℕ) : Type 0 where
 -- what checks 1 and 2 and then the call's own come to, as a verdict: `long` is check 1 on list and tables, and `own`
 -- what the call's own come to
 pub data Judged (long : Bool) (st : State) (l : List ℕ) (own : Verdict) : Verdict → Type 0 where
-  is_short : long ≡ false → Judged long st l own (Refused TableTooShort)
-  is_damaged : long ≡ true → (Intact st l → ⊥) → Judged long st l own (Refused Damaged)
+  is_short : long ≡ false → Judged long st l own (Err TableTooShort)
+  is_damaged : long ≡ true → (Intact st l → ⊥) → Judged long st l own (Err Damaged)
   is_judged : long ≡ true → Intact st l → Judged long st l own own
+
+-- a list that checks 1 and 2 let pass: these numbers, with as many used records as the state says
+pub record ListOf (st : State) (l : List ℕ) (checked : Checked) : Type 0 where
+  pub used : checked.queries.used ≡ st.registered
+  pub numbers : checked.queries.list.now ≡ l
 
 -- ---- the state of a fresh engine
 

@@ -4,101 +4,77 @@ ghost use Rattle.window.specs.Lists.{Each};
 ghost use Rattle.window.specs.Queries.{Limits, window_start};
 ghost use Rattle.window.specs.Refusals.{answer_places, due_at};
 ghost use Rattle.window.specs.Calls.{Answer};
-ghost use Rattle.registry.specs.Records.{record_limit, list_places, used};
-ghost use Rattle.board.specs.Tables.{tables, tables_long};
+ghost use Rattle.registry.specs.Held.{held};
+ghost use Rattle.board.specs.Tables.{tables_long};
+ghost use Rattle.board.specs.Lending.{shared_lists};
 ghost use Rattle.board.specs.Ledgers.{Ledger};
 ghost use Rattle.board.specs.Boards.{Usable, Holds, HeadsEnsures};
 ghost use Rattle.engine.specs.Answers.{answer_with, put_at, answered_places, value_in, answer_in, Backing};
 
 use crate::state::State;
 use board::heads::Heads;
+use board::tables::SharedTables;
 use registry::checks::ANSWER_PLACES;
-use registry::list::query_at;
+use registry::list::Checked;
 use window::count::Count;
-use window::query::Query;
+use window::query::{Kind, Query};
 
 // One answer is written: query number, kind, count of readings in the window, value.
 fn put_answer(answers: &mut [i64], at: usize, q: Query, count: u32, value: i64)
     requires { at + answer_places ≤ length answers.old }
     ensures { answers.new ≡ put_at at (answer_with q count value) answers.old }
 {
-    answers[at] = q.number as i64;
-    answers[at + 1] = q.kind as i64;
-    answers[at + 2] = count as i64;
+    answers[at] = i64::from(q.number);
+    answers[at + 1] = i64::from(q.kind);
+    answers[at + 2] = i64::from(count);
     answers[at + 3] = value;
 }
 
 impl State {
     // The value of the window of q at n, by its kind; that of a window that begins at the horizon is known.
-    fn window_value(
-        self,
-        q: Query,
-        horizon: Count,
-        heads: Heads,
-        starts: &[Count],
-        sums: &[i64],
-        max_starts: &[Count],
-        max_values: &[i32],
-        min_starts: &[Count],
-        min_values: &[i32],
-    ) -> i64
+    fn window_value(self, q: Query, horizon: Count, heads: Heads, tables: SharedTables<'_>) -> i64
         requires { Usable self.board × (q.origin ≤ self.count)
-            × HeadsEnsures horizon self.board (tables starts.now sums.now max_starts.now max_values.now min_starts.now min_values.now) heads
-            × (tables_long (tables starts.now sums.now max_starts.now max_values.now min_starts.now min_values.now) ≡ true) }
-        ensures { (h : ℕ) (l : Ledger) → Holds h l self.board (tables starts.now sums.now max_starts.now max_values.now min_starts.now min_values.now) → h ≤ window_start self.count q
+            × HeadsEnsures horizon self.board (shared_lists tables) heads
+            × (tables_long (shared_lists tables) ≡ true) }
+        ensures { (h : ℕ) (l : Ledger) → Holds h l self.board (shared_lists tables.entry) → h ≤ window_start self.count q
             → result ≡ value_in l.closed self.count q }
     {
         let n = self.count;
-        if q.kind == 2 {
-            return q.window_count(n) as i64;
+        if q.kind == Kind::Count as u32 {
+            return i64::from(q.window_count(n));
         }
         let from = q.window_start(n);
         if from == horizon {
             return heads.value(q.kind);
         }
-        let board = self.board;
-        board.value_from(
-            q.kind, from, starts, sums, max_starts, max_values, min_starts, min_values,
-        )
+        self.board.value_from(q.kind, from, tables)
     }
 
-    // The queries due at n are answered in registration order, four places each, from the first place on. Returned is
-    // how many they are.
+    // The due queries of a list that passed check 2 are answered in registration order, four places each, from the first
+    // place on. Returned is how many they are.
     pub(crate) fn answer_due(
         self,
-        list: &[u32],
+        checked: Checked<'_>,
         horizon: Count,
-        starts: &[Count],
-        sums: &[i64],
-        max_starts: &[Count],
-        max_values: &[i32],
-        min_starts: &[Count],
-        min_values: &[i32],
+        tables: SharedTables<'_>,
         answers: &mut [i64],
     ) -> usize
         requires { Usable self.board
-            × (list_places ≤ length list.now) × (self.registered ≤ record_limit) × Each Limits (used self.registered list.now) × Each (λ (q : Query). q.origin ≤ self.count) (used self.registered list.now)
-            × (answer_places * length (due_at self.count (used self.registered list.now)) ≤ length answers.old)
-            × (tables_long (tables starts.now sums.now max_starts.now max_values.now min_starts.now min_values.now) ≡ true) }
-        ensures count { result ≡ length (due_at self.count (used self.registered list.now)) }
+            × Each (λ (q : Query). q.origin ≤ self.count) (held checked.queries)
+            × (answer_places * length (due_at self.count (held checked.queries)) ≤ length answers.old)
+            × (tables_long (shared_lists tables) ≡ true) }
+        ensures count { result ≡ length (due_at self.count (held checked.entry.queries)) }
         ensures places { (given : List Answer) × (length given ≡ result) × (answers.new ≡ answered_places given answers.old)
-            × ((x : Backing self.count (used self.registered list.now) self.board (tables starts.now sums.now max_starts.now max_values.now min_starts.now min_values.now))
-            → given ≡ map (answer_in x.ledger.closed self.count) (due_at self.count (used self.registered list.now))) }
+            × ((x : Backing self.count (held checked.entry.queries) self.board (shared_lists tables.entry))
+            → given ≡ map (answer_in x.ledger.closed self.count) (due_at self.count (held checked.entry.queries))) }
     {
         let n = self.count;
-        let k = self.registered;
-        let board = self.board;
-        let heads = board.heads(
-            horizon, starts, sums, max_starts, max_values, min_starts, min_values,
-        );
+        let heads = self.board.heads(horizon, tables);
         let mut answered = 0;
-        let mut i = 0;
-        while i < k {
-            let q = query_at(list, i);
+        for i in 0..checked.queries.used {
+            let q = checked.queries.query(i);
             if q.due(n) {
-                let value = self.window_value(
-                    q, horizon, heads, starts, sums, max_starts, max_values, min_starts, min_values,
-                );
+                let value = self.window_value(q, horizon, heads, tables);
                 put_answer(
                     answers,
                     ANSWER_PLACES * answered,
@@ -108,7 +84,6 @@ impl State {
                 );
                 answered += 1;
             }
-            i += 1;
         }
         answered
     }

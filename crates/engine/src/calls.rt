@@ -1,141 +1,75 @@
-// The open calls (document 01, "The calls and where each refuses").
+// The open calls (document 01, "The calls and where each refuses"). The state goes in by value: an accepted call hands
+// back the state after it, and where a call is refused the caller's own is as it was, as are list, tables and answers.
 ghost use Rattle.std.specs.Prelude.{◌≡◌};
 ghost use Rattle.window.specs.Calls.{start, register, withdraw, reading, totals};
-ghost use Rattle.board.specs.Tables.{tables};
+ghost use Rattle.board.specs.Lending.{lent_lists, shared_lists, SameSlices};
+ghost use Rattle.engine.specs.declared.state.State.{State};
 ghost use Rattle.engine.specs.Machine.{machine};
-ghost use Rattle.engine.specs.Outcomes.{verdict_outcome, reading_outcome, totals_outcome};
+ghost use Rattle.engine.specs.Outcomes.{state_outcome, state_after, answers_written, reading_outcome, reading_state, totals_outcome};
 ghost use Rattle.engine.specs.Promises.{StartEnsures, Ensures, ReadingEnsures};
 
-use crate::checks::{all_long, judge_entry, judge_reading, judge_register, judge_withdraw};
+use crate::checks::{judge_entry, judge_reading, judge_register, judge_withdraw};
 use crate::state::State;
-use board::tables::{enough, zero};
-use registry::{edit, scan};
+use board::tables::{LentTables, SharedTables};
+use registry::edit;
+use registry::list::LIST_PLACES;
 use window::count::Count;
 use window::query::Query;
-use window::refusal::{Refusal, Verdict};
+use window::refusal::Refusal;
 
-// What a start, a registration or a withdrawal comes to, with the state handed back: equal where it is refused.
+// What an accepted reading comes to: the state after it, and how many answers were written.
 #[derive(Clone, Copy)]
-pub struct Reply {
-    pub verdict: Verdict,
+pub struct Answered {
     pub state: State,
+    pub answers: usize,
 }
 
-// What a reading comes to: how many answers were written, or a refusal.
-#[derive(Clone, Copy)]
-pub enum Answered {
-    Answers(usize),
-    Refused(Refusal),
+// What totals returns.
+#[derive(Clone, Copy, Debug, PartialEq, Eq)]
+pub struct Tally {
+    // n
+    pub count: Count,
+    // P
+    pub closed: Count,
+    // M
+    pub max_comparisons: u64,
+    // N
+    pub min_comparisons: u64,
 }
 
-// The same, with the state handed back: equal where it is refused.
-#[derive(Clone, Copy)]
-pub struct ReadingReply {
-    pub outcome: Answered,
-    pub state: State,
-}
-
-// What a call of totals comes to: n, P, M and N, or a refusal.
-#[derive(Clone, Copy)]
-pub enum TotalsReply {
-    Totals(Count, Count, u64, u64),
-    Refused(Refusal),
-}
-
-// A refused call hands back what it was given.
-fn refused(state: State, refusal: Refusal) -> Reply
-    ensures { result ≡ record { verdict = Verdict.Refused refusal; state = state } }
+// Start: everything empty. The query list and the first 4,096 places of each table become 0. It is promised for
+// whatever state the caller had.
+pub fn start(list: &mut [u32], tables: &mut LentTables<'_>) -> Result<State, Refusal>
+    ensures same { SameSlices tables.old tables.new }
+    ensures called { (state : State) → StartEnsures
+        (machine state list.old (lent_lists tables.old))
+        (state_outcome result)
+        (machine (state_after state result) list.new (lent_lists tables.new)) }
 {
-    let verdict = Verdict::Refused(refusal);
-    Reply { verdict, state }
-}
-
-// An accepted one hands back the state after it.
-fn accepted(state: State) -> Reply
-    ensures { result ≡ record { verdict = Verdict.Passed; state = state } }
-{
-    let verdict = Verdict::Passed;
-    Reply { verdict, state }
-}
-
-// So does a refused reading.
-fn refused_reading(state: State, refusal: Refusal) -> ReadingReply
-    ensures { result ≡ record { outcome = Answered.Refused refusal; state = state } }
-{
-    let outcome = Answered::Refused(refusal);
-    ReadingReply { outcome, state }
-}
-
-// An accepted reading hands back the state after it, and how many answers it wrote.
-fn accepted_reading(state: State, answers: usize) -> ReadingReply
-    ensures { result ≡ record { outcome = Answered.Answers answers; state = state } }
-{
-    let outcome = Answered::Answers(answers);
-    ReadingReply { outcome, state }
-}
-
-// Start: everything empty. The query list and the first 4,096 places of each table become 0.
-pub fn start(
-    state: State,
-    list: &mut [u32],
-    starts: &mut [Count],
-    sums: &mut [i64],
-    max_starts: &mut [Count],
-    max_values: &mut [i32],
-    min_starts: &mut [Count],
-    min_values: &mut [i32],
-) -> Reply
-    ensures { StartEnsures
-        (machine state list.old (tables starts.old sums.old max_starts.old max_values.old min_starts.old min_values.old))
-        (verdict_outcome result.verdict)
-        (machine result.state list.new (tables starts.new sums.new max_starts.new max_values.new min_starts.new min_values.new)) }
-{
-    let tables = enough(
-        starts.len(),
-        sums.len(),
-        max_starts.len(),
-        max_values.len(),
-        min_starts.len(),
-        min_values.len(),
-    );
-    let long = all_long(list.len(), tables);
-    if !long {
-        return refused(state, Refusal::TableTooShort);
+    if list.len() < LIST_PLACES || !tables.shared().are_long() {
+        return Err(Refusal::TableTooShort);
     }
-    zero(starts, sums, max_starts, max_values, min_starts, min_values);
+    tables.zero();
     edit::clear(list, 0);
-    accepted(State::fresh())
+    Ok(State::fresh())
 }
 
 // Register: the query joins the list with g = n. An open partial that holds a reading closes first.
 pub fn register(
     state: State,
     list: &mut [u32],
-    starts: &mut [Count],
-    sums: &mut [i64],
-    max_starts: &mut [Count],
-    max_values: &mut [i32],
-    min_starts: &mut [Count],
-    min_values: &mut [i32],
+    tables: &mut LentTables<'_>,
     number: u32,
     kind: u32,
     range: u32,
     slide: u32,
-) -> Reply
-    ensures { Ensures (register number kind range slide)
-        (machine state list.old (tables starts.old sums.old max_starts.old max_values.old min_starts.old min_values.old))
-        (verdict_outcome result.verdict)
-        (machine result.state list.new (tables starts.new sums.new max_starts.new max_values.new min_starts.new min_values.new)) }
+) -> Result<State, Refusal>
+    ensures same { SameSlices tables.old tables.new }
+    ensures called { Ensures (register number kind range slide)
+        (machine state list.old (lent_lists tables.old))
+        (state_outcome result)
+        (machine (state_after state result) list.new (lent_lists tables.new)) }
 {
-    let tables = enough(
-        starts.len(),
-        sums.len(),
-        max_starts.len(),
-        max_values.len(),
-        min_starts.len(),
-        min_values.len(),
-    );
-    let long = all_long(list.len(), tables);
     let q = Query {
         number,
         kind,
@@ -143,87 +77,44 @@ pub fn register(
         slide,
         origin: state.count,
     };
-    if let Verdict::Refused(refusal) = judge_register(long, state, list, q) {
-        return refused(state, refusal);
-    }
-    let horizon = scan::horizon(list, state.registered, state.count);
-    let closed = state.close_open(
-        horizon, starts, sums, max_starts, max_values, min_starts, min_values,
-    );
+    let horizon = judge_register(state, list, tables.shared(), q)?;
+    let closed = state.close_open(horizon, tables);
     edit::append(list, state.registered, q);
-    accepted(closed.with_one_more())
+    Ok(closed.with_one_more())
 }
 
 // Withdraw: the query leaves, the others keep their order. With none left, what is open is dropped unclosed.
 pub fn withdraw(
     state: State,
     list: &mut [u32],
-    starts: &[Count],
-    sums: &[i64],
-    max_starts: &[Count],
-    max_values: &[i32],
-    min_starts: &[Count],
-    min_values: &[i32],
+    tables: SharedTables<'_>,
     number: u32,
-) -> Reply
+) -> Result<State, Refusal>
     ensures { Ensures (withdraw number)
-        (machine state list.old (tables starts.now sums.now max_starts.now max_values.now min_starts.now min_values.now))
-        (verdict_outcome result.verdict)
-        (machine result.state list.new (tables starts.now sums.now max_starts.now max_values.now min_starts.now min_values.now)) }
+        (machine state list.old (shared_lists tables.entry))
+        (state_outcome result)
+        (machine (state_after state result) list.new (shared_lists tables.entry)) }
 {
-    let tables = enough(
-        starts.len(),
-        sums.len(),
-        max_starts.len(),
-        max_values.len(),
-        min_starts.len(),
-        min_values.len(),
-    );
-    let long = all_long(list.len(), tables);
-    if let Verdict::Refused(refusal) = judge_withdraw(long, state, list, number) {
-        return refused(state, refusal);
-    }
+    judge_withdraw(state, list, tables, number)?;
     let left = edit::withdraw(list, state.registered, number);
-    accepted(state.left_with(left))
+    Ok(state.left_with(left))
 }
 
 // Totals: n, P, M and N, changing nothing.
-pub fn totals(
-    state: State,
-    list: &[u32],
-    starts: &[Count],
-    sums: &[i64],
-    max_starts: &[Count],
-    max_values: &[i32],
-    min_starts: &[Count],
-    min_values: &[i32],
-) -> TotalsReply
+pub fn totals(state: State, list: &[u32], tables: SharedTables<'_>) -> Result<Tally, Refusal>
     ensures { Ensures totals
-        (machine state list.now (tables starts.now sums.now max_starts.now max_values.now min_starts.now min_values.now))
+        (machine state list.now (shared_lists tables.entry))
         (totals_outcome result)
-        (machine state list.now (tables starts.now sums.now max_starts.now max_values.now min_starts.now min_values.now)) }
+        (machine state list.now (shared_lists tables.entry)) }
 {
-    let tables = enough(
-        starts.len(),
-        sums.len(),
-        max_starts.len(),
-        max_values.len(),
-        min_starts.len(),
-        min_values.len(),
-    );
-    let long = all_long(list.len(), tables);
-    if let Verdict::Refused(refusal) = judge_entry(long, state, list) {
-        return TotalsReply::Refused(refusal);
-    }
+    judge_entry(state, list, tables)?;
     let board = state.board;
-    let maxima = board.maxima;
-    let minima = board.minima;
-    TotalsReply::Totals(
-        state.count,
-        board.closed,
-        maxima.comparisons,
-        minima.comparisons,
-    )
+    Ok(Tally {
+        count: state.count,
+        closed: board.closed,
+        max_comparisons: board.maxima.comparisons,
+        min_comparisons: board.minima.comparisons,
+    })
 }
 
 // Reading: it joins the readings, and that is all where no query has an edge. At an edge what is open closes, and the
@@ -231,42 +122,29 @@ pub fn totals(
 pub fn reading(
     state: State,
     list: &[u32],
-    starts: &mut [Count],
-    sums: &mut [i64],
-    max_starts: &mut [Count],
-    max_values: &mut [i32],
-    min_starts: &mut [Count],
-    min_values: &mut [i32],
+    tables: &mut LentTables<'_>,
     answers: &mut [i64],
     value: i32,
-) -> ReadingReply
-    ensures { ReadingEnsures value answers.old answers.new
-        (machine state list.now (tables starts.old sums.old max_starts.old max_values.old min_starts.old min_values.old))
-        (reading_outcome result.outcome answers.new)
-        (machine result.state list.now (tables starts.new sums.new max_starts.new max_values.new min_starts.new min_values.new)) }
+) -> Result<Answered, Refusal>
+    ensures same { SameSlices tables.old tables.new }
+    ensures called { ReadingEnsures value answers.old answers.new
+        (machine state list.now (lent_lists tables.old))
+        (reading_outcome (answers_written result) answers.new)
+        (machine (reading_state state result) list.now (lent_lists tables.new)) }
 {
-    let tables = enough(
-        starts.len(),
-        sums.len(),
-        max_starts.len(),
-        max_values.len(),
-        min_starts.len(),
-        min_values.len(),
-    );
-    let long = all_long(list.len(), tables);
-    if let Verdict::Refused(refusal) = judge_reading(long, state, list, answers.len()) {
-        return refused_reading(state, refusal);
-    }
+    let checked = judge_reading(state, list, tables.shared(), answers.len())?;
     let taken = state.with_reading(value);
-    if !scan::any_edge(list, taken.registered, taken.count) {
-        return accepted_reading(taken, 0);
+    if !checked.any_edge(taken.count) {
+        return Ok(Answered {
+            state: taken,
+            answers: 0,
+        });
     }
-    let horizon = scan::horizon(list, taken.registered, taken.count);
-    let closed = taken.close_open(
-        horizon, starts, sums, max_starts, max_values, min_starts, min_values,
-    );
-    let answers = closed.answer_due(
-        list, horizon, starts, sums, max_starts, max_values, min_starts, min_values, answers,
-    );
-    accepted_reading(closed, answers)
+    let horizon = checked.queries.horizon(taken.count);
+    let closed = taken.close_open(horizon, tables);
+    let answers = closed.answer_due(checked, horizon, tables.shared(), answers);
+    Ok(Answered {
+        state: closed,
+        answers,
+    })
 }

@@ -1,11 +1,11 @@
 // The open partial: the readings since its start, aggregated.
-ghost use Rattle.std.specs.Prelude.{◌≡◌, true};
+ghost use Rattle.std.specs.Prelude.{◌≡◌, ◌↔◌, IsTrue};
 ghost use Rattle.ints.specs.Sizes.{Small};
 ghost use Rattle.deque.specs.Sums.{sum_limit};
 ghost use Rattle.engine.specs.Open.{open_with, open_while, FitsAggregate, FitsOpen};
 
 use board::aggregate::Aggregate;
-use window::count::{Count, count_of, wide};
+use window::count::Count;
 use window::query::LENGTH_LIMIT;
 
 // The greatest size of a reading: 2^31.
@@ -24,19 +24,12 @@ pub enum Open {
 
 // Whether these can be the aggregates of the open partial, with n readings taken and `closed` partials closed.
 fn aggregate_fits(a: Aggregate, n: Count, closed: Count) -> bool
-    ensures { (result ≡ true → FitsAggregate n closed a) × (FitsAggregate n closed a → result ≡ true) }
+    ensures { IsTrue result ↔ FitsAggregate n closed a }
 {
-    if a.start < closed {
-        return false;
-    }
-    if n <= a.start {
-        return false;
-    }
-    let held = n - a.start;
-    if count_of(LENGTH_LIMIT) <= held {
-        return false;
-    }
-    ints::is_small(wide(held) * READING_SIZE, a.sum)
+    closed <= a.start
+        && a.start < n
+        && n - a.start < Count::from(LENGTH_LIMIT)
+        && a.sum.unsigned_abs() <= u64::from(n - a.start) * READING_SIZE
 }
 
 impl Open {
@@ -64,11 +57,10 @@ impl Open {
 
     // Whether this can be open, with n readings taken and `closed` partials closed.
     pub(crate) fn fits(self, n: Count, closed: Count) -> bool
-        ensures { (result ≡ true → FitsOpen n closed self) × (FitsOpen n closed self → result ≡ true) }
+        ensures { IsTrue result ↔ FitsOpen n closed self }
     {
         match self {
-            Open::Nothing => true,
-            Open::Empty => true,
+            Open::Nothing | Open::Empty => true,
             Open::Holding(a) => aggregate_fits(a, n, closed),
         }
     }

@@ -1,5 +1,5 @@
 // The engine's state: it goes in by value and comes back.
-ghost use Rattle.std.specs.Prelude.{◌≡◌, true, ◌<◌};
+ghost use Rattle.std.specs.Prelude.{◌≡◌, ◌↔◌, IsTrue, ◌<◌};
 ghost use Rattle.window.specs.Queries.{count_limit};
 ghost use Rattle.registry.specs.Records.{record_limit};
 ghost use Rattle.engine.specs.States.{Sound, with_reading, with_one_more, left_with, FreshState};
@@ -26,28 +26,21 @@ impl State {
     pub fn fresh() -> State
         ensures { FreshState result }
     {
-        let board = Board::empty();
         State {
             count: 0,
             registered: 0,
             partial: Open::Nothing,
-            board,
+            board: Board::empty(),
         }
     }
 
     // Check 2 on the state: whether it can be used.
     pub(crate) fn fits(self) -> bool
-        ensures { (result ≡ true → Sound self) × (Sound self → result ≡ true) }
+        ensures { IsTrue result ↔ Sound self }
     {
-        let board = self.board;
-        if self.count < board.closed {
-            return false;
-        }
-        if !board.fits() {
-            return false;
-        }
-        let partial = self.partial;
-        partial.fits(self.count, board.closed)
+        self.board.closed <= self.count
+            && self.board.fits()
+            && self.partial.fits(self.count, self.board.closed)
     }
 
     // With one reading more: n grows by one, and the reading joins the open partial.
@@ -55,14 +48,10 @@ impl State {
         requires { Sound self × (self.count < count_limit) }
         ensures { result ≡ with_reading value self }
     {
-        let before = self.partial;
-        let partial = before.extended(self.count, value);
-        let board = self.board;
         State {
             count: self.count + 1,
-            registered: self.registered,
-            partial,
-            board,
+            partial: self.partial.extended(self.count, value),
+            ..self
         }
     }
 
@@ -71,12 +60,10 @@ impl State {
         requires { self.registered < record_limit }
         ensures { result ≡ with_one_more self }
     {
-        let board = self.board;
         State {
-            count: self.count,
             registered: self.registered + 1,
             partial: Open::Empty,
-            board,
+            ..self
         }
     }
 
@@ -84,14 +71,10 @@ impl State {
     pub(crate) fn left_with(self, left: usize) -> State
         ensures { result ≡ left_with left self }
     {
-        let before = self.partial;
-        let partial = before.while_any(left);
-        let board = self.board;
         State {
-            count: self.count,
             registered: left,
-            partial,
-            board,
+            partial: self.partial.while_any(left),
+            ..self
         }
     }
 }

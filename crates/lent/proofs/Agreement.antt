@@ -1,10 +1,6 @@
 -- Demand 3 for the calls on a lent query list: it is the engine's, of the first 32 records.
 -- Assumes nothing.
-use mathlib.Core.Path.{◌≡◌, ap, ◌∙◌}
-use mathlib.Core.Bool.{true}
-use borrow.Author.Tests.{leb-true}
-use lib.Dec.{leb}
-use lib.ListN.{length, take}
+use Rattle.std.proofs.Common.{◌≡◌, true, leb, length, take, ap, ◌∙◌, leb-true}
 use Rattle.window.specs.Calls.{Call, start, register, withdraw, reading, totals, Outcome}
 use Rattle.window.specs.Model.{reached}
 use Rattle.window.proofs.Lists.{and_left, and_right}

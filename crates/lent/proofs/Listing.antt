@@ -1,27 +1,19 @@
 -- The lent list over an accepted call: a start leaves it 0, a registration and a withdrawal do what `append` and
 -- `withdraw` on it do, and the layer below can be lent the records anew.
 -- Assumes nothing.
-use Prim.Native.Nat.{ℕ, ◌-◌, ◌≤◌, ◌<◌, min}
-use native.Mathlib.Omega.{arith}
-use mathlib.Core.Path.{◌≡◌, refl, sym, ap, ap₂, ◌∙◌, subst}
-use mathlib.Core.Bool.{Bool, true, false, not, ◌&&◌, cond}
-use mathlib.Core.List.{List, [], ◌∷◌, ◌++◌}
-use borrow.Author.Tests.{leb-true, le-leb, lt-ltb, not-false}
-use lib.IntN.{ℤ}
-use lib.ListN.{length, take, drop, set, replicate, take-append-drop}
-use lib.Seq.{take_at, length-take-le, set-append_left}
+use Rattle.std.proofs.Common.{◌≡◌, ℕ, ◌-◌, ◌≤◌, ◌<◌, min, Bool, true, false, not, ◌&&◌, cond, List, [], ◌∷◌, ◌++◌, ℤ, length, take, drop, set, replicate, Ok, Err, refl, sym, ap, ap₂, ◌∙◌, subst, arith, take-append-drop, take_at, length-take-le, leb-true, le-leb, lt-ltb}
+use Rattle.std.proofs.lemmas.Bool.{not-false}
+use Rattle.std.proofs.lemmas.List.{set-append_left}
 use Rattle.window.specs.declared.query.Query.{Query}
-use Rattle.window.specs.declared.refusal.Verdict.{Verdict}
-use Rattle.window.specs.declared.refusal.Verdict.TheVariants.{Passed, Refused}
-use Rattle.window.specs.Refusals.{refusal_number, has_number, is_registered, withdraw_checks}
-use Rattle.window.specs.Calls.{Call, register, withdraw, reading, totals, Answer, Outcome, accepted}
+use Rattle.window.specs.Refusals.{Verdict, refusal_number, has_number, is_registered, withdraw_checks}
+use Rattle.window.specs.Calls.{Call, register, withdraw, Answer, Outcome, accepted}
 use Rattle.window.specs.Model as model
 use Rattle.window.specs.Model.{count, initial, after_withdraw, answered, totals_of, Stepped, judged, new_query, step}
 use Rattle.window.specs.Invariant.{Invariant}
 use Rattle.window.proofs.Bounds.{bounded}
 use Rattle.window.proofs.Lists.{and_left, and_right, not_left, length-filter}
 use Rattle.window.proofs.Refusals.{passed_any, register_passed}
-use Rattle.window.proofs.Steps.{accepted-refused, register-queries, reading-queries}
+use Rattle.window.proofs.Steps.{accepted-refused, register-queries}
 use Rattle.registry.specs.Records.{record_limit, list_places, unused}
 use Rattle.registry.proofs.Intact.{fits-ordered}
 use Rattle.records.specs.Laid.{laid}
@@ -34,11 +26,11 @@ use Rattle.board.specs.Tables.{Tables, tables_long}
 use Rattle.engine.specs.declared.state.State.{State}
 use Rattle.engine.specs.Machine.{machine, machine_long, ListIs, Represents}
 use Rattle.engine.specs.Promises.{Ensures, StartEnsures, verdict_of}
+use Rattle.engine.proofs.Accepting.{joining}
 use Rattle.engine.proofs.Listing.{still-long, zeroed-long}
 use Rattle.engine.proofs.Stepping.{accepted_step, step-judged}
 use Rattle.lent.specs.Lent.{Lent, list_long, lent_long, machine_with, lent_machine}
 use Rattle.lent.specs.Promises.{OnLent, ReadingOnLent}
-use Rattle.lent.specs.Copied.{joining}
 
 -- ---- plain lists
 
@@ -96,9 +88,12 @@ listed s k rs e v f =
 -- ---- check 1
 
 -- the layer below is lent a list that is long enough, so the tables decide
-pub long-below : (st : State) (rs : List Query) (t : Tables) → machine_long (machine_with st rs t) ≡ tables_long t
+pub long-laid : (k : ℕ) (st : State) (rs : List Query) (t : Tables) → machine_long (machine st (laid k rs) t) ≡ tables_long t
 unfolding machine_long
-long-below st rs t = ap (λ (b : Bool). b && tables_long t) (le-leb list_places (length (laid st.registered rs)) (omega (arith, laid-length st.registered rs)))
+long-laid k st rs t = ap (λ (b : Bool). b && tables_long t) (le-leb list_places (length (laid k rs)) (omega (arith, laid-length k rs)))
+
+pub long-below : (st : State) (rs : List Query) (t : Tables) → machine_long (machine_with st rs t) ≡ tables_long t
+long-below st rs t = long-laid st.registered st rs t
 
 -- ---- an accepted call with another list
 
@@ -130,54 +125,45 @@ module _ (st st' : State) (rs rs' : List Query) (t t' : Tables) (l' ns : List �
         kept = e.kept;
       }
 
-  -- the same of a start, which comes to the first state
-  pub relisted_start : StartEnsures (machine_with st rs t) (accepted ns given) (machine st' l' t') → rs' ≡ filled_up initial.queries
+  -- the same of a start, which comes to the first state, whatever was used of the list that it was lent
+  pub relisted_start : (k : ℕ) → StartEnsures (machine st (laid k rs) t) (accepted ns given) (machine st' l' t') → rs' ≡ filled_up initial.queries
       → StartEnsures (machine_with st rs t) (accepted ns given) (machine_with st' rs' t')
-  relisted_start e are =
+  relisted_start k e are =
       record {
-        short = e.short;
-        accepts = e.accepts;
+        short = λ f. e.short (same ∙ f);
+        accepts = λ g. e.accepts (same ∙ g);
         represents = λ g.
-            let r = e.represents g in
+            let r = e.represents (same ∙ g) in
             record {
               invariant = r.invariant;
               readings = r.readings;
-              long = zeroed-long (machine_with st rs t) st' (laid st'.registered rs') t' (laid_kept st.registered st'.registered rs rs') (e.zeroes g) g;
+              long = zeroed-long (machine_with st rs t) st' (laid st'.registered rs') t' (laid_kept st.registered st'.registered rs rs') (e.zeroes (same ∙ g)) g;
               list = listed initial st'.registered rs' r.list.count r.invariant are;
               state = r.state;
             };
-        zeroes = e.zeroes;
+        zeroes = λ g. e.zeroes (same ∙ g);
         list_kept = laid_kept st.registered st'.registered rs rs';
-        unchanged = λ k i. accepted-refused ns given k i;
+        unchanged = λ j i. accepted-refused ns given j i;
         own = e.own;
       }
+    where
+      -- both lists are long enough
+      same : machine_long (machine st (laid k rs) t) ≡ machine_long (machine_with st rs t)
+      same = long-laid k st rs t ∙ sym (long-below st rs t)
 
 -- ---- the queries after an accepted call
 
 -- it passed its checks
-accepted_passed : (s : model.State) (c : Call) (ns : List ℕ) (given : List Answer) → accepted ns given ≡ (step s c).outcome → verdict_of c (count s) s.queries ≡ Passed
+accepted_passed : (s : model.State) (c : Call) (ns : List ℕ) (given : List Answer) → accepted ns given ≡ (step s c).outcome → verdict_of c (count s) s.queries ≡ Ok tt
 accepted_passed s c ns given e = go (verdict_of c (count s) s.queries) (e ∙ ap (λ (x : Stepped). x.outcome) (step-judged s c))
   where
-    go : (v : Verdict) → accepted ns given ≡ (judged v s (accepted_step s c)).outcome → v ≡ Passed
-    go Passed k = refl
-    go (Refused r) k = accepted-refused ns given (refusal_number r) k
+    go : (v : Verdict) → accepted ns given ≡ (judged v s (accepted_step s c)).outcome → v ≡ Ok tt
+    go (Ok _) k = refl
+    go (Err r) k = accepted-refused ns given (refusal_number r) k
 
 -- so the step is the accepted one
-passed_queries : (s : model.State) (c : Call) → verdict_of c (count s) s.queries ≡ Passed → (step s c).state.queries ≡ (accepted_step s c).state.queries
+passed_queries : (s : model.State) (c : Call) → verdict_of c (count s) s.queries ≡ Ok tt → (step s c).state.queries ≡ (accepted_step s c).state.queries
 passed_queries s c p = ap (λ (x : Stepped). x.state.queries) (step-judged s c ∙ ap (λ (v : Verdict). judged v s (accepted_step s c)) p)
-
--- a reading and totals change none of them
-pub reading-same : (s : model.State) (v : ℤ) (places : ℕ) → (step s (reading v places)).state.queries ≡ s.queries
-unfolding answered
-reading-same s v places = go (verdict_of (reading v places) (count s) s.queries) (ap (λ (x : Stepped). x.state.queries) (step-judged s (reading v places)))
-  where
-    go : (w : Verdict) → (step s (reading v places)).state.queries ≡ (judged w s (accepted_step s (reading v places))).state.queries → (step s (reading v places)).state.queries ≡ s.queries
-    go Passed k = k ∙ reading-queries s v
-    go (Refused r) k = k
-
-pub totals-same : (s : model.State) → (step s totals).state.queries ≡ s.queries
-unfolding totals_of
-totals-same s = passed_queries s totals refl
 
 module _ (s : model.State) (st : State) (xs : List Query) (t : Tables) (l : record_limit ≤ length xs) (rep : Represents s (machine_with st (take record_limit xs) t)) (ns : List ℕ) (given : List Answer) where
   -- after an accepted registration the lent list is the model's, with the query appended
@@ -191,7 +177,7 @@ module _ (s : model.State) (st : State) (xs : List Query) (t : Tables) (l : reco
       q : Query
       q = new_query s number kind range slide
 
-      passed : verdict_of (register number kind range slide) (count s) s.queries ≡ Passed
+      passed : verdict_of (register number kind range slide) (count s) s.queries ≡ Ok tt
       passed = accepted_passed s (register number kind range slide) ns given a
 
   -- and after an accepted withdrawal with the query withdrawn
@@ -202,7 +188,7 @@ module _ (s : model.State) (st : State) (xs : List Query) (t : Tables) (l : reco
       withdrawn-filled number st.registered s.queries xs l rep.invariant.within_limits.few used_are (not-false _ (not_left _ false (passed_any (withdraw_checks s.queries number) passed)))
       ∙ ap (λ (qs : List Query). filled_up qs ++ drop record_limit xs) (sym (passed_queries s (withdraw number) passed))
     where
-      passed : verdict_of (withdraw number) (count s) s.queries ≡ Passed
+      passed : verdict_of (withdraw number) (count s) s.queries ≡ Ok tt
       passed = accepted_passed s (withdraw number) ns given a
 
       used_are : used_of st.registered xs ≡ s.queries
@@ -245,7 +231,6 @@ withdraw_withdraws number s m m' ns given e l rep =
     ∙ sym (withdraw_fills s m.state m.records m.tables (leb-true _ _ l) rep ns given number ((e.promised l).agrees s rep))
 
 -- a reading leaves as many queries registered
-pub reading_keeps : (v : ℤ) (before after : List ℤ) (s : model.State) (m : Lent) (o : Outcome) (m' : Lent) → ReadingOnLent v before after m o m' → list_long m ≡ true → Represents s (lent_machine m)
+pub reading_keeps : (v : ℤ) (before after : List ℤ) (m : Lent) (o : Outcome) (m' : Lent) → ReadingOnLent v before after m o m' → list_long m ≡ true
     → m'.state.registered ≡ m.state.registered
-reading_keeps v before after s m o m' e l rep =
-    ((e.on_lent.promised l).ensures.represents s rep).list.count ∙ ap length (reading-same s v (length before)) ∙ sym rep.list.count
+reading_keeps v before after m o m' e l = (e.on_lent.promised l).alone

@@ -1,4 +1,3 @@
 pub mod Lent
 pub mod Promises
-pub mod Copied
 pub mod Demand3

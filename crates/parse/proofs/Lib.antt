@@ -1,6 +1,7 @@
+pub mod Landing
+pub mod Slices
 pub mod Scanning
 pub mod Digits
 pub mod Reading
-pub mod Landing
-pub mod Slices
 pub mod Keeping
+pub mod Copies

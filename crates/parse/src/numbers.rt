@@ -1,149 +1,100 @@
 // Numbers as a session line writes them: digits without a leading zero, or 0.
-ghost use Rattle.std.specs.Prelude.{◌≡◌, ◌-◌, ◌<◌, ◌≤◌, min, pos, neg_ℤ};
-ghost use Rattle.parse.specs.Numbers.{digit, starts, value_or, number_of, signed_of, positive, negative, NumberBelow};
+ghost use Rattle.std.specs.Prelude.{◌≡◌, ◌^◌, ◌≤◌, IsTrue, IfOk, MatchOption};
+ghost use Rattle.parse.specs.Numbers.{digits, digits_value, written, number_of, unsigned_of, negative, signed_of, refusal_of};
 
-// What a field is as an unsigned number: no number as written (refusal 14), a number outside its width (15), or a
-// number.
-#[derive(Clone, Copy)]
-pub enum Number {
+use window::refusal::Refusal;
+
+// Why a field is no number that is wanted: it is not written as one (refusal 14), or it is outside its width (15).
+#[derive(Clone, Copy, Debug, PartialEq, Eq)]
+pub enum NumberError {
     Malformed,
     Wide,
-    Is(u32),
 }
 
-// The same as a signed number.
-#[derive(Clone, Copy)]
-pub enum Signed {
-    Malformed,
-    Wide,
-    Is(i32),
-}
+// What refuses the line.
+impl From<NumberError> for Refusal {
+    ghost from_gives = { λ error refusal. refusal ≡ refusal_of error };
 
-fn is_digit(b: u8) -> bool
-    ensures { result ≡ digit b }
-{
-    if b < 48 { false } else { b <= 57 }
-}
-
-// Whether the bytes start as a number does: there is one, and no zero stands before others.
-fn starts(s: &[u8]) -> bool
-    ensures { result ≡ starts s.now }
-{
-    if s.len() == 0 {
-        return false;
-    }
-    if s.len() == 1 {
-        return true;
-    }
-    s[0] != 48
-}
-
-// What a byte stands for, if it is a digit; some small number if it is none.
-fn digit_value(b: u8) -> u64
-    ensures { (result ≡ b - 48) × (result < 256) }
-{
-    if b < 48 { 0 } else { (b - 48) as u64 }
-}
-
-fn capped(x: u64, cap: u64) -> u64
-    ensures { result ≡ min cap x }
-{
-    if x < cap { x } else { cap }
-}
-
-// The number that the digits make, or the cap where that is more: so it cannot wrap, however many they are. One above
-// the cap where a byte is no digit.
-fn value(s: &[u8], cap: u64) -> u64
-    requires { cap ≤ 4294967296 }
-    ensures { result ≡ value_or cap 0 s.now }
-{
-    let mut n: u64 = 0;
-    let mut i = 0;
-    while i < s.len() {
-        let b = s[i];
-        if is_digit(b) {
-            n = capped(n * 10 + digit_value(b), cap);
-        } else {
-            return cap + 1;
+    fn from(error: NumberError) -> Refusal {
+        match error {
+            NumberError::Malformed => Refusal::NotANumber,
+            NumberError::Wide => Refusal::OutsideWidth,
         }
-        i += 1;
     }
-    n
 }
 
-// An unsigned number that may be so much at most.
-#[tactic(auto, using(crate::proofs::Digits::start_malformed, crate::proofs::Digits::value_is, crate::proofs::Digits::value_wide, crate::proofs::Digits::value_none))]
-pub(crate) fn unsigned_number(s: &[u8], most: u64) -> Number
-    requires { most ≤ 4294967295 }
-    ensures { result ≡ number_of most s.now }
+// Whether every byte is a digit.
+fn all_digits(s: &[u8]) -> bool
+    ensures { result ≡ digits s.now }
 {
-    if !starts(s) {
-        return Number::Malformed;
-    }
-    let n = value(s, most + 1);
-    if n <= most {
-        return Number::Is(n as u32);
-    }
-    if n == most + 1 {
-        Number::Wide
-    } else {
-        Number::Malformed
-    }
+    s.iter().all(|b| b.is_ascii_digit())
 }
 
-fn positive_i32(m: u32) -> i32
-    requires { m ≤ 2147483647 }
-    ensures { result ≡ pos m }
+// Whether the bytes are digits without a leading zero, or 0.
+#[tactic(auto, using(crate::proofs::Digits::written_one, crate::proofs::Digits::written_other))]
+fn is_written(s: &[u8]) -> bool
+    ensures { result ≡ written s.now }
 {
-    m as i32
+    match s {
+        [] => false,
+        [b'0', _, ..] => false,
+        _ => all_digits(s),
+    }
 }
 
-fn negative_i32(m: u32) -> i32
+// The number that digits make, where it has 32 bits.
+#[tactic(auto, using(crate::proofs::Digits::digits_value_next))]
+fn digits_value(s: &[u8]) -> Option<u32>
+    requires { IsTrue (digits s.now) }
+    ensures { MatchOption result (2 ^ 32 ≤ digits_value 0 s.now) (λ n. n ≡ digits_value 0 s.now) }
+{
+    let mut n: u32 = 0;
+    for b in s {
+        n = n.checked_mul(10)?.checked_add(u32::from(*b - b'0'))?;
+    }
+    Some(n)
+}
+
+// A number without a sign that may be so much at most.
+#[tactic(auto, unfolding(crate::specs::Numbers::number_of))]
+pub(crate) fn number_up_to(s: &[u8], most: u32) -> Result<u32, NumberError>
+    ensures value { result ≡ number_of most s.now }
+    ensures within { IfOk result (λ n. n ≤ most) }
+{
+    if !is_written(s) {
+        return Err(NumberError::Malformed);
+    }
+    digits_value(s)
+        .filter(|n| *n <= most)
+        .ok_or(NumberError::Wide)
+}
+
+// An unsigned 32-bit number.
+#[tactic(auto, unfolding(crate::specs::Numbers::unsigned_of))]
+pub(crate) fn unsigned_number(s: &[u8]) -> Result<u32, NumberError>
+    ensures { result ≡ unsigned_of s.now }
+{
+    number_up_to(s, u32::MAX)
+}
+
+// The number below 0 whose magnitude is m: a minus sign may not stand before 0.
+fn negative(m: u32) -> Result<i32, NumberError>
     requires { m ≤ 2147483648 }
-    ensures { result ≡ neg_ℤ (pos m) }
+    ensures { result ≡ negative (Ok m) }
 {
-    let z = 0 - (m as i64);
-    z as i32
-}
-
-fn without_sign(n: Number) -> Signed
-    requires { NumberBelow 2147483647 n }
-    ensures { result ≡ positive n }
-{
-    match n {
-        Number::Is(m) => Signed::Is(positive_i32(m)),
-        Number::Wide => Signed::Wide,
-        Number::Malformed => Signed::Malformed,
+    if m == 0 {
+        return Err(NumberError::Malformed);
     }
+    Ok((-i64::from(m)) as i32)
 }
 
-// A minus sign may not stand before 0.
-fn with_minus(n: Number) -> Signed
-    requires { NumberBelow 2147483648 n }
-    ensures { result ≡ negative n }
-{
-    match n {
-        Number::Is(m) => {
-            if m == 0 {
-                Signed::Malformed
-            } else {
-                Signed::Is(negative_i32(m))
-            }
-        }
-        Number::Wide => Signed::Wide,
-        Number::Malformed => Signed::Malformed,
-    }
-}
-
-// A signed 32-bit number; byte 45 is the minus sign.
-pub(crate) fn signed_number(s: &[u8]) -> Signed
+// A signed 32-bit number.
+#[tactic(auto, using(crate::proofs::Digits::signs))]
+pub(crate) fn signed_number(s: &[u8]) -> Result<i32, NumberError>
     ensures { result ≡ signed_of s.now }
 {
-    if s.len() == 0 {
-        return Signed::Malformed;
+    match s {
+        [b'-', digits @ ..] => negative(number_up_to(digits, i32::MIN.unsigned_abs())?),
+        _ => Ok(number_up_to(s, i32::MAX as u32)? as i32),
     }
-    if s[0] == 45 {
-        return with_minus(unsigned_number(&s[1..], 2147483648));
-    }
-    without_sign(unsigned_number(s, 2147483647))
 }

@@ -1,217 +1,363 @@
 -- What each function of the program hands to the next.
 -- Assumes nothing.
-use Prim.Native.Nat.{ℕ, zero, suc, ◌+◌, ◌<◌, ◌≤◌}
-use mathlib.Core.Path.{◌≡◌, refl, sym, subst, ◌∙◌}
-use mathlib.Core.Bool.{Bool, true, false, cond, false≢true}
-use native.Mathlib.Omega.{arith}
-use borrow.Author.Tests.{leb-true}
-use mathlib.Core.List.{List, [], ◌∷◌, ◌++◌}
-use lib.Dec.{leb}
-use lib.IntN.{ℤ, pos, negsuc}
-use lib.Signed.{lt_z}
-use lib.ListN.{length, length-append, length-take}
-use types.Run.{OneOf, hit, miss}
-use denote.Enum.Declared.{tag_of}
-use Rattle.io.specs.Counts.{clamp_len}
-use Rattle.session.specs.Promises.{Held, line_limit, Lent, lent_of}
-use Rattle.session.specs.Whole.{Reached, Carries, CarriesLimit, RanAll}
+use Rattle.std.proofs.Common.{ℕ, zero, suc, ◌+◌, ◌-◌, ◌<◌, ◌≤◌, ◌≡◌, refl, sym, ap, subst, ◌∙◌, arith, List, [], ◌++◌, append_assoc, append-nil, length, take, drop, length-append, take-append-drop, Option, Some, None, IfSome, OnOk, Result, Ok, Err, true}
+use lib.Seq.{slice_empty}
+use Rattle.std.specs.Prelude.{⊤}
+use Rattle.std.proofs.lemmas.List.{take_rest}
+use Rattle.std.specs.Io.{ReadsAtMost}
+use Rattle.std.specs.Io.KnownBytes.{Keeps, Appends, Consumes, IsAtEnd, ReadConsumes}
+use Rattle.std.proofs.KnownBytes.{Appends-nil, Appends-trans, Consumes-nil, Consumes-trans, Consumes-kept}
+use Rattle.parse.specs.Kept.{kept_length}
+use Rattle.session.specs.Meaning.{session_output, line_room}
+use Rattle.session.specs.Promises.{Held, line_limit, Lent, lent_long, lent_of, OpenEnsures, FeedEnsures, finish_room, FinishEnsures}
+use Rattle.session.specs.Whole.{Fed, none, more, Reached, Carries}
 use Rattle.session.proofs.Whole.{whole_session}
-use Rattle.session.proofs.Composing.{carries_nothing, carries_then, limit_many, limit_then}
-use Rattle.pchelodar.specs.declared.Progress.{Progress}
-use Rattle.pchelodar.specs.declared.Progress.TheVariants as progress
-use Rattle.pchelodar.specs.contracts.Progress.{the_type}
-use Rattle.pchelodar.specs.Promises.{Told, after_write, after_feed, ChunkFed, Read, read_of, size, brought, Failed, FoundEnd, AfterRead, Intake, none, next, ReadsFed, SomeFed, Heard, AllRead, ReachedReads, Handed, after_reads, Concluded, WholeRun}
-
--- ---- the other arm of a match: the cases that come to it, by their numbers
-
--- after one on Onward
-pub past_onward : (p : Progress) → (p ≡ progress.Onward → ⊥) → OneOf (1 ∷ 2 ∷ 3 ∷ 4 ∷ []) (tag_of the_type p)
-past_onward progress.Onward other = absurd (other refl)
-past_onward progress.InputEnded other = hit (1 ∷ 2 ∷ 3 ∷ 4 ∷ []) 1 tt
-past_onward progress.ReadFailed other = hit (1 ∷ 2 ∷ 3 ∷ 4 ∷ []) 2 tt
-past_onward progress.WriteFailed other = hit (1 ∷ 2 ∷ 3 ∷ 4 ∷ []) 3 tt
-past_onward progress.TooLong other = hit (1 ∷ 2 ∷ 3 ∷ 4 ∷ []) 4 tt
-
--- after one on InputEnded
-pub past_ended : (p : Progress) → (p ≡ progress.InputEnded → ⊥) → OneOf (0 ∷ 2 ∷ 3 ∷ 4 ∷ []) (tag_of the_type p)
-past_ended progress.Onward other = hit (0 ∷ 2 ∷ 3 ∷ 4 ∷ []) 0 tt
-past_ended progress.InputEnded other = absurd (other refl)
-past_ended progress.ReadFailed other = hit (0 ∷ 2 ∷ 3 ∷ 4 ∷ []) 2 tt
-past_ended progress.WriteFailed other = hit (0 ∷ 2 ∷ 3 ∷ 4 ∷ []) 3 tt
-past_ended progress.TooLong other = hit (0 ∷ 2 ∷ 3 ∷ 4 ∷ []) 4 tt
+use Rattle.session.proofs.Composing.{fed_then, carries_nothing, limit_many, limit_then, limit_stopped, reached-first, ran-all}
+use Rattle.pchelodar.specs.declared.Error.{Error}
+use Rattle.pchelodar.specs.declared.Error.TheVariants as error
+use Rattle.pchelodar.specs.Promises.{after_write, after_feed, Wrote, FedOn, StepFed, ChunkFed, returned, read_of, count_of, brought, Failed, FoundEnd, BroughtFed, AfterRead, Heard, Intake, none, next, Known, known, ReadsFed, SomeFed, AllRead, Concludes, Ended, Concluded, WholeRun}
 
 -- ---- what a write said
 
+-- what was written, by what the write said
+pub wrote : {E : Type 0} (bytes : List ℕ) (w w' : Option (List ℕ)) (said : Result ⊤ E) (p : Result ⊤ Error) → p ≡ after_write said → OnOk said (Appends w w' bytes) → Wrote bytes w w' p
+unfolding Wrote
+wrote {E} bytes w w' said p e written = subst (Wrote bytes w w') (sym e) (go said written)
+  where
+    go : (s : Result ⊤ E) → OnOk s (Appends w w' bytes) → Wrote bytes w w' (after_write s)
+    go (Ok x) a = a
+    go (Err x) a = tt
+
+-- where the write failed
+pub step_failed : (bytes : List ℕ) (h h' : Held) (printed : List ℕ) (w w' : Option (List ℕ)) (e : Error) (p : Result ℕ Error) → p ≡ Err e → Wrote printed w w' (Err e) → StepFed bytes h h' w w' p
+unfolding StepFed Wrote
+step_failed bytes h h' printed w w' e p q f = subst (StepFed bytes h h' w w') (sym q) (go e f)
+  where
+    go : (x : Error) → Wrote printed w w' (Err x) → StepFed bytes h h' w w' (Err x)
+    go error.ReadFailed g = g
+    go error.WriteFailed g = tt
+    go error.TooLong g = absurd g
+
+-- where all was written
+pub step_fed : (bytes : List ℕ) {old new : List ℕ} {filled : ℕ} {h h' : Held} (w w' : Option (List ℕ)) (to : ℕ) (p : Result ℕ Error) → p ≡ after_feed to → line_room ≤ length old → 0 < length bytes
+    → FeedEnsures bytes 0 h old h' to new filled → (x : ⊤) → Wrote (take filled new) w w' (Ok x) → StepFed bytes h h' w w' p
+unfolding StepFed Wrote
+step_fed bytes {old} {new} {filled} {h} {h'} w w' to p e room some f x written = subst (StepFed bytes h h' w w') (sym e) (go to f)
+  where
+    go : (n : ℕ) → FeedEnsures bytes 0 h old h' n new filled → StepFed bytes h h' w w' (after_feed n)
+    go zero g = limit_stopped room some (omega arith) (subst (λ (l : List ℕ). Carries l h h) (sym (slice_empty 0 bytes)) (carries_nothing h)) g
+    go (suc n) g =
+        record {
+          text = take filled new;
+          feeds =
+              subst (λ (l : List ℕ). Fed h (take (suc n) bytes) l h') (append-nil (take filled new))
+              (subst (λ (l : List ℕ). Fed h l (take filled new ++ []) h') (append-nil (take (suc n) bytes)) (more g none));
+          written = written;
+        }
+
+-- ---- bytes that were fed, with what they printed
+
+pub fed_nothing : (h : Held) (w : Option (List ℕ)) → FedOn [] h h w w
+fed_nothing h w = record { text = []; feeds = none; written = Appends-nil w }
+
+pub fed_on : {xs ys : List ℕ} {h h' h'' : Held} {w w' w'' : Option (List ℕ)} → FedOn xs h h' w w' → FedOn ys h' h'' w' w'' → FedOn (xs ++ ys) h h'' w w''
+fed_on {w = w} {w' = w'} {w'' = w''} p q =
+    record { text = p.text ++ q.text; feeds = fed_then p.feeds q.feeds; written = Appends-trans w w' w'' p.text q.text p.written q.written }
+
+-- what a session that was opened, and so fed, came to
+reached_on : {t : Lent} {input bytes : List ℕ} {h h' : Held} {w w' : Option (List ℕ)} → Reached t input h → FedOn bytes h h' w w' → Reached t (input ++ bytes) h'
+reached_on p f =
+    record {
+      text = p.text ++ f.text;
+      begun = record {
+        lent = p.begun.lent;
+        long = p.begun.long;
+        first = p.begun.first;
+        opens = p.begun.opens;
+        room = p.begun.room;
+        feeds = fed_then p.begun.feeds f.feeds;
+      };
+      on = p.on;
+    }
+
+carries_fed : {bytes : List ℕ} {h h' : Held} {w w' : Option (List ℕ)} → FedOn bytes h h' w w' → Carries bytes h h'
+carries_fed f = record { on = λ t input p. reached_on p f }
+
+-- ---- one chunk
+
+-- the bytes that were fed, and those taken next
+pub chunk_more : (chunk done rest : List ℕ) (n : ℕ) → chunk ≡ done ++ rest → chunk ≡ (done ++ take n rest) ++ take (length rest - n) (drop n rest)
+chunk_more chunk done rest n e =
+    e ∙ ap (λ (l : List ℕ). done ++ l) (sym (take-append-drop n rest)) ∙ sym (append_assoc done (take n rest) (drop n rest)) ∙ ap (λ (l : List ℕ). (done ++ take n rest) ++ l) (sym (take_rest rest n))
+
+-- the bytes before the rest were fed, and then some of it
+pub step_more : {done : List ℕ} (rest : List ℕ) {h₀ h : Held} (h' : Held) {w₀ w : Option (List ℕ)} (w' : Option (List ℕ)) (n : ℕ) → FedOn done h₀ h w₀ w → StepFed rest h h' w w' (Ok n) → FedOn (done ++ take n rest) h₀ h' w₀ w'
+unfolding StepFed
+step_more rest h' w' n fed s = fed_on fed s
+
 -- all bytes of a chunk
-pub chunk_fed : {chunk : List ℕ} {h h' : Held} → Carries chunk h h' → ChunkFed chunk h h' progress.Onward
+pub chunk_all : (chunk done : List ℕ) {rest : List ℕ} {h h' : Held} {w w' : Option (List ℕ)} → chunk ≡ done ++ rest → rest ≡ [] → FedOn done h h' w w' → ChunkFed chunk h h' w w' (Ok tt)
 unfolding ChunkFed
-chunk_fed f = f
+chunk_all chunk done {rest} {h} {h'} {w} {w'} split empty f =
+    subst (λ (l : List ℕ). FedOn l h h' w w') (sym (split ∙ ap (λ (l : List ℕ). done ++ l) empty ∙ append-nil done)) f
 
--- one that does not go on: a write failed, or the limit was reached. The cases by their numbers
-pub stopped : (chunk : List ℕ) (said : Bool) (from to : ℕ) {h h' : Held} (p : Progress) → p ≡ after_write said (after_feed from to) → OneOf (1 ∷ 2 ∷ 3 ∷ 4 ∷ []) (tag_of the_type p)
-    → (to ≤ from → CarriesLimit h h') → ChunkFed chunk h h' p
+-- one that was fed to a place and no further
+pub chunk_stopped : (chunk : List ℕ) {done : List ℕ} (rest : List ℕ) {h₀ h : Held} (h' : Held) {w₀ w : Option (List ℕ)} (w' : Option (List ℕ)) (e : Error) (p : Result ⊤ Error) → p ≡ Err e → FedOn done h₀ h w₀ w → StepFed rest h h' w w' (Err e) → ChunkFed chunk h₀ h' w₀ w' p
+unfolding StepFed ChunkFed
+chunk_stopped chunk {done} rest {h₀} {h} h' {w₀} {w} w' e p q fed s = subst (ChunkFed chunk h₀ h' w₀ w') (sym q) (go e s)
+  where
+    go : (x : Error) → StepFed rest h h' w w' (Err x) → ChunkFed chunk h₀ h' w₀ w' (Err x)
+    go error.ReadFailed f = f
+    go error.WriteFailed f = tt
+    go error.TooLong f = limit_then (carries_fed fed) f
+
+-- ---- one read
+
+-- the bytes that it brought were fed
+pub after_fed : {E : Type 0} (got : Result ℕ E) (chunk : List ℕ) (h h' : Held) (w w' : Option (List ℕ)) (n : ℕ) → got ≡ Ok n → 0 < n → (x : ⊤) → ChunkFed (take n chunk) h h' w w' (Ok x)
+    → AfterRead (read_of got chunk) h h' w w' (Ok n)
+unfolding ChunkFed BroughtFed
+after_fed {E} got chunk h h' w w' n e some x fed =
+    subst (λ (g : Result ℕ E). AfterRead (read_of g chunk) h h' w w' (Ok n)) (sym e)
+    (record { failed = λ f. absurd cc; ended = λ f. absurd (not_none cc); some = λ s. (refl, fed) })
+  where
+    not_none : n ≡ 0 → ⊥
+    not_none z = omega (arith, z, some)
+
+-- or some of them, or none
+pub after_stopped : {E : Type 0} (got : Result ℕ E) (chunk : List ℕ) (h h' : Held) (w w' : Option (List ℕ)) (n : ℕ) → got ≡ Ok n → 0 < n → (e : Error) (p : Result ℕ Error) → p ≡ Err e
+    → ChunkFed (take n chunk) h h' w w' (Err e) → AfterRead (read_of got chunk) h h' w w' p
+unfolding ChunkFed BroughtFed
+after_stopped {E} got chunk h h' w w' n same some e p q fed =
+    subst (λ (g : Result ℕ E). AfterRead (read_of g chunk) h h' w w' p) (sym same)
+    (subst (AfterRead (read_of {E = E} (Ok n) chunk) h h' w w') (sym q)
+    (record { failed = not_failed; ended = not_ended; some = λ s. go e fed }))
+  where
+    not_none : n ≡ 0 → ⊥
+    not_none z = omega (arith, z, some)
+
+    not_failed : {T : Type 0} → Failed (record { got = Some n; buffer = chunk }) → T
+    not_failed f = absurd cc
+
+    not_ended : {T : Type 0} → FoundEnd (record { got = Some n; buffer = chunk }) → T
+    not_ended f = absurd (not_none cc)
+
+    go : (x : Error) → ChunkFed (take n chunk) h h' w w' (Err x) → BroughtFed (record { got = Some n; buffer = chunk }) h h' w w' (Err x)
+    go error.ReadFailed f = f
+    go error.WriteFailed f = tt
+    go error.TooLong f = f
+
+pub heard_stopped : {E : Type 0} (got : Result ℕ E) (chunk : List ℕ) (h h' : Held) (w w' : Option (List ℕ)) (n : ℕ) → got ≡ Ok n → 0 < n → (e : Error) (p : Result ℕ Error) → p ≡ Err e
+    → ChunkFed (take n chunk) h h' w w' (Err e) → Heard p (read_of got chunk)
 unfolding ChunkFed
-stopped chunk said from to {h} {h'} p e k limit = go said (leb to from) refl e
+heard_stopped {E} got chunk h h' w w' n same some e p q fed =
+    subst (λ (g : Result ℕ E). Heard p (read_of g chunk)) (sym same) (subst (λ (x : Result ℕ Error). Heard x (record { got = Some n; buffer = chunk })) (sym q) (go e fed))
   where
-    go : (s b : Bool) → leb to from ≡ b → p ≡ after_write s (cond b progress.TooLong progress.Onward) → ChunkFed chunk h h' p
-    go true true l q = subst (ChunkFed chunk h h') (sym q) (limit (leb-true to from l))
-    go true false l q = absurd (miss (1 ∷ 2 ∷ 3 ∷ 4 ∷ []) 0 tt (subst (λ (x : Progress). OneOf (1 ∷ 2 ∷ 3 ∷ 4 ∷ []) (tag_of the_type x)) q k))
-    go false b l q = subst (ChunkFed chunk h h') (sym q) tt
-
--- what follows a write is told by it, where the run would go on without a failure
-pub told-after : (said : Bool) (n p : Progress) → Told n true → p ≡ after_write said n → Told p said
-told-after true n p t e = subst (λ (x : Progress). Told x true) (sym e) t
-told-after false n p t e = subst (λ (x : Progress). Told x false) (sym e) refl
-
-pub told_feed : (from to : ℕ) → Told (after_feed from to) true
-told_feed from to = go (leb to from)
-  where
-    go : (b : Bool) → Told (cond b progress.TooLong progress.Onward) true
-    go true = refl
-    go false = refl
+    go : (x : Error) → ChunkFed (take n chunk) h h' w w' (Err x) → Heard (Err x) (record { got = Some n; buffer = chunk })
+    go error.ReadFailed f = absurd f
+    go error.WriteFailed f = some
+    go error.TooLong f = some
 
 -- ---- all reads
 
 -- each read brought a byte
-reads-many : {n : ℕ} {bytes : List ℕ} → Intake n bytes → n ≤ length bytes
+pub reads-many : {n : ℕ} {bytes : List ℕ} → Intake n bytes → n ≤ length bytes
 reads-many none = omega arith
-reads-many (next {n} {bytes} reads r some) =
-    omega (arith, reads-many reads, length-append bytes (brought r), length-take (size r) r.buffer, within r.got, some)
-  where
-    within : (got : ℤ) → clamp_len got (length r.buffer) ≤ length r.buffer
-    within (pos k) = omega arith
-    within (negsuc k) = omega arith
+reads-many (next {n} {bytes} reads r some) = omega (arith, reads-many reads, length-append bytes (brought r), some)
 
 -- no read
-pub reads_none : (h : Held) → ReadsFed 0 h h
-reads_none h = record { bytes = []; reads = none; carries = carries_nothing h }
+pub reads_none : (h : Held) (k : Known) → ReadsFed 0 h h k k
+reads_none h k = record { bytes = []; reads = none; fed = fed_nothing h k.holds; given = Consumes-nil k.ahead }
 
--- the three things that a read may come to
-data Came (r : Read) : Type 0 where
-  failing : Failed r → Came r
-  ending : FoundEnd r → Came r
-  bringing : 0 < size r → Came r
-
-came : (r : Read) → Came r
-came r = go (lt_z r.got (pos 0)) refl (size r) refl
+-- the same bytes were fed, and nothing changed since
+fed_still : {bytes : List ℕ} {h₀ h : Held} (h' : Held) {w₀ w : Option (List ℕ)} (w' : Option (List ℕ)) → FedOn bytes h₀ h w₀ w → h' ≡ h → Keeps w w' → FedOn bytes h₀ h' w₀ w'
+fed_still {bytes} {h₀} {h} h' {w₀} {w} w' fed e kept =
+    subst (λ (x : Held). FedOn bytes h₀ x w₀ w') (sym e)
+    (record { text = fed.text; feeds = fed.feeds; written = appends_kept w₀ w w' fed.text fed.written kept })
   where
-    go : (b : Bool) → lt_z r.got (pos 0) ≡ b → (n : ℕ) → size r ≡ n → Came r
-    go true e n s = failing e
-    go false e zero s = ending (e, s)
-    go false e (suc n) s = bringing (omega (arith, s))
+    appends_kept : (a b c : Option (List ℕ)) (bs : List ℕ) → Appends a b bs → Keeps b c → Appends a c bs
+    appends_kept None b c bs p q = tt
+    appends_kept (Some x) None c bs p q = absurd p
+    appends_kept (Some x) (Some y) None bs p q = absurd q
+    appends_kept (Some x) (Some y) (Some z) bs p q = q ∙ p
 
 -- one read more
-pub read_more : {m n : ℕ} (r : Read) {h₀ h : Held} (h' : Held) {p : Progress} → m ≡ n + 1 → p ≡ progress.Onward → ReadsFed n h₀ h → AfterRead r h h' p → ReadsFed m h₀ h'
-unfolding ChunkFed
-read_more {m} {n} r {h₀} {h} h' {p} l e fed a = go (came r)
+pub read_more : {E : Type 0} {m n : ℕ} {h₀ h : Held} (h' : Held) {k₀ k : Known} (a' w' : Option (List ℕ)) (got : Result ℕ E) (buffer : List ℕ) (count : ℕ) → m ≡ n + 1 → 0 < count
+    → ReadsFed n h₀ h k₀ k → AfterRead (read_of got buffer) h h' k.holds w' (Ok count) → Heard (Ok count) (read_of got buffer) → ReadsAtMost got buffer → ReadConsumes k.ahead a' got buffer
+    → ReadsFed m h₀ h' k₀ (known a' w')
+unfolding BroughtFed
+read_more {E} {m} {n} {h₀} {h} h' {k₀} {k} a' w' got buffer count l some fed a heard most given =
+    subst (λ (j : ℕ). ReadsFed j h₀ h' k₀ (known a' w')) (sym l) (go got (came count heard some) a most given)
   where
-    go : Came r → ReadsFed m h₀ h'
-    go (failing f) = absurd (ruled_out (sym (a.failed f).0 ∙ e))
-      where
-        ruled_out : progress.ReadFailed ≡ progress.Onward → ⊥
-        ruled_out q = false≢true cc
-    go (ending f) = absurd (ruled_out (sym (a.ended f).0 ∙ e))
-      where
-        ruled_out : progress.InputEnded ≡ progress.Onward → ⊥
-        ruled_out q = false≢true cc
-    go (bringing s) =
-        subst (λ (k : ℕ). ReadsFed k h₀ h') (sym l)
-        (record {
-          bytes = fed.bytes ++ brought r;
-          reads = next fed.reads r s;
-          carries = carries_then fed.carries (subst (ChunkFed (brought r) h h') e (a.some s));
-        })
+    came : (c : ℕ) → Heard (Ok c) (read_of got buffer) → 0 < c → 0 < count_of (returned got)
+    came zero x s = omega (arith, s)
+    came (suc c) x s = x
 
--- the last read: the cases after which no other follows, by their numbers
-pub read-last : {n : ℕ} (r : Read) {h₀ h : Held} (h' : Held) (p : Progress) → OneOf (1 ∷ 2 ∷ 3 ∷ 4 ∷ []) (tag_of the_type p) → ReadsFed n h₀ h → AfterRead r h h' p → AllRead h₀ h' p × Heard p r
-unfolding ChunkFed AllRead
-read-last {n} r {h₀} {h} h' p k fed a = go (came r)
+    go : (g : Result ℕ E) → 0 < count_of (returned g) → AfterRead (read_of g buffer) h h' k.holds w' (Ok count) → ReadsAtMost g buffer → ReadConsumes k.ahead a' g buffer
+        → ReadsFed (n + 1) h₀ h' k₀ (known a' w')
+    go (Ok c) s b most taken =
+        record {
+          bytes = fed.bytes ++ take c buffer;
+          reads = next fed.reads (record { got = Some c; buffer = buffer }) (omega (arith, s, most.1));
+          fed = fed_on fed.fed (b.some s).1;
+          given = Consumes-trans k₀.ahead k.ahead a' fed.bytes (take c buffer) fed.given taken.0;
+        }
+    go (Err e) s b most taken = absurd (omega (arith, s))
+
+-- the input ended
+pub read_ended : {E : Type 0} {n : ℕ} (places : ℕ) {h₀ h : Held} (h' : Held) {k₀ k : Known} (a' w' : Option (List ℕ)) (got : Result ℕ E) (buffer : List ℕ) (count : ℕ) → count ≡ 0 → length buffer ≡ places
+    → ReadsFed n h₀ h k₀ k → AfterRead (read_of got buffer) h h' k.holds w' (Ok count) → Heard (Ok count) (read_of got buffer) → ReadConsumes k.ahead a' got buffer
+    → AllRead places h₀ h' k₀ (known a' w') (Ok tt)
+unfolding AllRead
+read_ended {E} {n} places {h₀} {h} h' {k₀} {k} a' w' got buffer count z same fed a heard given =
+    go got (subst (λ (c : ℕ). Heard (Ok c) (read_of got buffer)) z heard) a given
   where
-    some-fed : h' ≡ h → SomeFed h₀ h'
-    some-fed e = subst (SomeFed h₀) (sym e) (record { number = n; fed = fed })
+    go : (g : Result ℕ E) → FoundEnd (read_of g buffer) → AfterRead (read_of g buffer) h h' k.holds w' (Ok count) → ReadConsumes k.ahead a' g buffer
+        → SomeFed h₀ h' k₀ (known a' w') × (0 < places → IsAtEnd a')
+    go (Ok c) found b taken =
+        let none_came : c ≡ 0 = cc in
+        let still = b.ended found in
+        let nothing : Consumes k.ahead a' [] = subst (λ (j : ℕ). Consumes k.ahead a' (take j buffer)) none_came taken.0 in (
+          record {
+            number = n;
+            fed = record {
+              bytes = fed.bytes;
+              reads = fed.reads;
+              fed = fed_still h' w' fed.fed still.1 still.2;
+              given = subst (Consumes k₀.ahead a') (append-nil fed.bytes) (Consumes-trans k₀.ahead k.ahead a' fed.bytes [] fed.given nothing);
+            };
+          },
+          λ room. taken.1 none_came (omega (arith, room, same)),
+        )
+    go (Err e) found b taken = absurd cc
 
-    fed-on : (q : Progress) → OneOf (1 ∷ 2 ∷ 3 ∷ 4 ∷ []) (tag_of the_type q) → ChunkFed (brought r) h h' q → AllRead h₀ h' q × Heard q r
-    fed-on progress.Onward j f = absurd (miss (1 ∷ 2 ∷ 3 ∷ 4 ∷ []) 0 tt j)
-    fed-on progress.InputEnded j f = absurd f
-    fed-on progress.ReadFailed j f = absurd f
-    fed-on progress.WriteFailed j f = (tt, tt)
-    fed-on progress.TooLong j f = (limit_then fed.carries f, tt)
+-- it ended before
+pub read_stopped : {E : Type 0} {n : ℕ} (places : ℕ) {h₀ h : Held} (h' : Held) {k₀ k : Known} (a' w' : Option (List ℕ)) (got : Result ℕ E) (buffer : List ℕ) (e : Error) (p : Result ⊤ Error) → p ≡ Err e
+    → ReadsFed n h₀ h k₀ k → AfterRead (read_of got buffer) h h' k.holds w' (Err e) → Heard (Err e) (read_of got buffer) → ReadConsumes k.ahead a' got buffer
+    → AllRead places h₀ h' k₀ (known a' w') p
+unfolding AllRead BroughtFed
+read_stopped {E} {n} places {h₀} {h} h' {k₀} {k} a' w' got buffer e p q fed a heard given = subst (AllRead places h₀ h' k₀ (known a' w')) (sym q) (go e a heard)
+  where
+    failing : (g : Result ℕ E) → Failed (read_of g buffer) → AfterRead (read_of g buffer) h h' k.holds w' (Err error.ReadFailed) → ReadConsumes k.ahead a' g buffer → SomeFed h₀ h' k₀ (known a' w')
+    failing (Ok c) f b kept = absurd cc
+    failing (Err x) f b kept =
+        let still = b.failed f in
+        record {
+          number = n;
+          fed = record {
+            bytes = fed.bytes;
+            reads = fed.reads;
+            fed = fed_still h' w' fed.fed still.1 still.2;
+            given = Consumes-kept k₀.ahead k.ahead a' fed.bytes fed.given kept;
+          };
+        }
 
-    go : Came r → AllRead h₀ h' p × Heard p r
-    go (failing f) = subst (λ (q : Progress). AllRead h₀ h' q × Heard q r) (sym (a.failed f).0) (some-fed (a.failed f).1, f)
-    go (ending f) = subst (λ (q : Progress). AllRead h₀ h' q × Heard q r) (sym (a.ended f).0) (some-fed (a.ended f).1, f)
-    go (bringing s) = fed-on p k (a.some s)
+    go : (x : Error) → AfterRead (read_of got buffer) h h' k.holds w' (Err x) → Heard (Err x) (read_of got buffer) → AllRead places h₀ h' k₀ (known a' w') (Err x)
+    go error.ReadFailed b f = failing got f b given
+    go error.WriteFailed b f = tt
+    go error.TooLong b f = limit_then (carries_fed fed.fed) (b.some f)
 
 -- no read is left
-pub reads_spent : {n : ℕ} {h₀ h : Held} → line_limit ≤ n → ReadsFed n h₀ h → AllRead h₀ h progress.TooLong
+pub reads_spent : {n : ℕ} (places : ℕ) {h₀ h : Held} (k₀ k : Known) → line_limit ≤ n → ReadsFed n h₀ h k₀ k → AllRead places h₀ h k₀ k (Err error.TooLong)
 unfolding AllRead
-reads_spent l fed = limit_many (omega (arith, l, reads-many fed.reads)) fed.carries
+reads_spent places k₀ k l fed = limit_many (omega (arith, l, reads-many fed.reads)) (carries_fed fed.fed)
 
 -- ---- the whole run
 
--- all input, from the opening on
-pub all_handed : {lent : Lent} {h : Held} (h' : Held) (p : Progress) → Reached lent [] h → AllRead h h' p → Handed lent h' p
-unfolding AllRead Handed
-all_handed {lent} {h} h' p first = go p
+-- finished, where the write did not fail
+pub concludes : {h : Held} {old new : List ℕ} {left : Lent} {filled : ℕ} (w w' : Option (List ℕ)) (p : Result ⊤ Error) → FinishEnsures h old left new filled → Wrote (take filled new) w w' p
+    → Concludes h old left new w w' p
+unfolding Concludes Wrote
+concludes {h} {old} {new} {left} {filled} w w' p f = go p
   where
-    from : SomeFed h h' → ReachedReads lent h'
-    from f = record { number = f.number; bytes = f.fed.bytes; reads = f.fed.reads; reached = f.fed.carries.on lent [] first }
+    go : (q : Result ⊤ Error) → Wrote (take filled new) w w' q → Concludes h old left new w w' q
+    go (Ok x) a = record { filled = filled; finish = f; written = a }
+    go (Err error.ReadFailed) a = a
+    go (Err error.WriteFailed) a = tt
+    go (Err error.TooLong) a = a
 
-    go : (q : Progress) → AllRead h h' q → Handed lent h' q
-    go progress.Onward r = r
-    go progress.InputEnded r = from r
-    go progress.ReadFailed r = from r
-    go progress.WriteFailed r = tt
-    go progress.TooLong r = r.on lent [] first
+-- by what the reads came to, and the totals
+pub ended_reads : {t : Lent} {h : Held} (h' : Held) (places : ℕ) (left : Lent) (new : List ℕ) (k k' k'' : Known) (e : Error) (p : Result ⊤ Error) → p ≡ Err e → OpenEnsures t h → AllRead places h h' k k' (Err e)
+    → Ended places t left new k k'' p
+ended_reads {t} {h} h' places left new k k' k'' e p q opens read =
+    record { first = h; opens = opens; read = Err e; last = h'; midway = k'; reads = read; old = []; totals = Err e; concludes = tt; ends = q }
 
--- where the input ended, it was fed
-pub handed_ended : (lent : Lent) (h : Held) {p : Progress} → p ≡ progress.InputEnded → Handed lent h p → ReachedReads lent h
-unfolding Handed
-handed_ended lent h e p = subst (Handed lent h) e p
+pub ended_totals : {t : Lent} {h : Held} (h' : Held) (places : ℕ) (old new : List ℕ) (left : Lent) (k k' k'' : Known) (x : ⊤) (p : Result ⊤ Error) → OpenEnsures t h → AllRead places h h' k k' (Ok x)
+    → Concludes h' old left new k'.holds k''.holds p → Ended places t left new k k'' p
+ended_totals {t} {h} h' places old new left k k' k'' x p opens read concluded =
+    record { first = h; opens = opens; read = Ok x; last = h'; midway = k'; reads = read; old = old; totals = p; concludes = concluded; ends = refl }
 
--- where it did not end, the session is broken off: the other cases, by their numbers
-pub not-ended : (lent : Lent) (h : Held) (new : List ℕ) (p : Progress) → OneOf (0 ∷ 2 ∷ 3 ∷ 4 ∷ []) (tag_of the_type p) → Handed lent h p → Concluded lent (lent_of h) new p
-unfolding Handed Concluded
-not-ended lent h new progress.Onward k handed = handed
-not-ended lent h new progress.InputEnded k handed = absurd (miss (0 ∷ 2 ∷ 3 ∷ 4 ∷ []) 1 tt k)
-not-ended lent h new progress.ReadFailed k handed = record { last = h; broken = handed; leaves = refl }
-not-ended lent h new progress.WriteFailed k handed = tt
-not-ended lent h new progress.TooLong k handed = record { last = h; broken = handed; leaves = refl }
-
--- and its end stays as it is
-pub end_stays : (p : Progress) (said : Bool) → OneOf (0 ∷ 2 ∷ 3 ∷ 4 ∷ []) (tag_of the_type p) → p ≡ after_reads p said
-end_stays progress.Onward said k = refl
-end_stays progress.InputEnded said k = absurd (miss (0 ∷ 2 ∷ 3 ∷ 4 ∷ []) 1 tt k)
-end_stays progress.ReadFailed said k = refl
-end_stays progress.WriteFailed said k = refl
-end_stays progress.TooLong said k = refl
-
--- where it ended, the last write decides
-pub end_written : (said : Bool) (p q : Progress) → p ≡ progress.InputEnded → q ≡ after_write said progress.InputEnded → q ≡ after_reads p said
-end_written said p q e w = subst (λ (x : Progress). q ≡ after_reads x said) (sym e) w
-
--- the last read is heard in the run's end
-pub heard_after : (p q : Progress) (said : Bool) (got got' : ℤ) (buffer : List ℕ) → q ≡ after_reads p said → got' ≡ got → Heard p (read_of got buffer) → Heard q (read_of got' buffer)
-heard_after p q said got got' buffer e same heard =
-    subst (λ (z : ℤ). Heard q (read_of z buffer)) (sym same) (subst (λ (x : Progress). Heard x (read_of got buffer)) (sym e) (go p said heard))
+-- the whole session, or one that was broken off
+pub ran_broken : {t : Lent} {h : Held} (h' : Held) (k k' : Known) (places : ℕ) (new : List ℕ) (e : Error) (p : Result ⊤ Error) → p ≡ Err e → lent_long t ≡ true → kept_length ≤ length h.line → OpenEnsures t h
+    → AllRead places h h' k k' (Err e) → Concluded t (lent_of h') new p
+unfolding AllRead Concluded
+ran_broken {t} {h} h' k k' places new e p q long room opens read = subst (Concluded t (lent_of h') new) (sym q) (go e read)
   where
-    go : (x : Progress) (s : Bool) → Heard x (read_of got buffer) → Heard (after_reads x s) (read_of got buffer)
-    go progress.Onward s h = h
-    go progress.InputEnded true h = h
-    go progress.InputEnded false h = tt
-    go progress.ReadFailed s h = h
-    go progress.WriteFailed s h = h
-    go progress.TooLong s h = h
+    go : (x : Error) → AllRead places h h' k k' (Err x) → Concluded t (lent_of h') new (Err x)
+    go error.ReadFailed r =
+        record {
+          last = h';
+          broken = record {
+            number = r.number;
+            bytes = r.fed.bytes;
+            reads = r.fed.reads;
+            reached = reached_on (reached-first long room opens) r.fed.fed;
+          };
+          leaves = refl;
+        }
+    go error.WriteFailed r = tt
+    go error.TooLong r = record { last = h'; broken = r.on t [] (reached-first long room opens); leaves = refl }
 
--- a session whole, where the last write did not fail
-pub concluded : (said : Bool) {lent left : Lent} {h : Held} {new : List ℕ} (p : Progress) → p ≡ after_write said progress.InputEnded → (u : ReachedReads lent h)
-    → RanAll u.bytes lent left new → Concluded lent left new p
-unfolding Concluded
-concluded said {lent} {left} {h} {new} p e u ran = subst (Concluded lent left new) (sym e) (go said)
+pub ran_all : {t : Lent} {h : Held} (h' : Held) (k k' : Known) (places : ℕ) (old new : List ℕ) (left : Lent) (w : Option (List ℕ)) (x : ⊤) (p : Result ⊤ Error) → lent_long t ≡ true
+    → kept_length ≤ length h.line → OpenEnsures t h → finish_room ≤ length old → AllRead places h h' k k' (Ok x) → Concludes h' old left new k'.holds w p → Concluded t left new p
+unfolding AllRead Concludes Concluded
+ran_all {t} {h} h' k k' places old new left w x p long room opens finish read = go p
   where
-    go : (s : Bool) → Concluded lent left new (after_write s progress.InputEnded)
-    go true = record { number = u.number; bytes = u.bytes; reads = u.reads; ran = ran }
-    go false = tt
+    go : (q : Result ⊤ Error) → Concludes h' old left new k'.holds w q → Concluded t left new q
+    go (Ok y) f =
+        record {
+          number = read.0.number;
+          bytes = read.0.fed.bytes;
+          reads = read.0.fed.reads;
+          ran = ran-all finish (reached_on (reached-first long room opens) read.0.fed.fed) f.finish;
+        }
+    go (Err error.ReadFailed) f = absurd f
+    go (Err error.WriteFailed) f = tt
+    go (Err error.TooLong) f = absurd f
+
+-- a reader that is at its end gave all that it had
+all_given : (P : List ℕ → Type 0) (a b : Option (List ℕ)) (bytes : List ℕ) → Consumes a b bytes → IsAtEnd b → P bytes → IfSome a P
+all_given P None b bytes given end p = tt
+all_given P (Some x) None bytes given end p = absurd given
+all_given P (Some x) (Some y) bytes given end p = subst P (sym (given ∙ ap (λ (l : List ℕ). bytes ++ l) end ∙ append-nil bytes)) p
+
+-- and then the session of just that was written
+pub ran_written : {t : Lent} {h : Held} (h' : Held) (k k' : Known) (places : ℕ) (old new : List ℕ) (left : Lent) (w : Option (List ℕ)) (x : ⊤) (p : Result ⊤ Error) → lent_long t ≡ true
+    → kept_length ≤ length h.line → OpenEnsures t h → finish_room ≤ length old → AllRead places h h' k k' (Ok x) → Concludes h' old left new k'.holds w p → 0 < places
+    → OnOk p (IfSome k.ahead (λ xs. Appends k.holds w (session_output xs)))
+unfolding AllRead Concludes
+ran_written {t} {h} h' k k' places old new left w x p long room opens finish read concluded some = go p concluded
+  where
+    go : (q : Result ⊤ Error) → Concludes h' old left new k'.holds w q → OnOk q (IfSome k.ahead (λ xs. Appends k.holds w (session_output xs)))
+    go (Ok y) f =
+        let fed = read.0.fed.fed in
+        let whole : fed.text ++ take f.filled new ≡ session_output read.0.fed.bytes =
+        whole_session read.0.fed.bytes (fed.text ++ take f.filled new)
+        (record {
+          text = fed.text;
+          last = h';
+          begun = record { lent = t; long = long; first = h; opens = opens; room = room; feeds = fed.feeds };
+          old = old;
+          room = finish;
+          left = left;
+          new = new;
+          filled = f.filled;
+          finish = f.finish;
+          all = refl;
+        }) in
+        all_given (λ xs. Appends k.holds w (session_output xs)) k.ahead k'.ahead read.0.fed.bytes read.0.fed.given (read.1 some)
+        (subst (Appends k.holds w) whole (Appends-trans k.holds k'.holds w fed.text (take f.filled new) fed.written f.written))
+    go (Err e) f = tt
 
 -- the claim about a run to its end
 pub whole_run : WholeRun

@@ -1,1 +1,2 @@
+pub mod Memories
 pub mod Promises

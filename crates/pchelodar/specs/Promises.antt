@@ -1,114 +1,154 @@
 -- What the program's functions promise: that they put the session's three functions together as its claim assumes
 -- (`Whole` of `session`), and what they decide on what `read` and `write_all` returned.
 -- Assumes nothing.
-use Rattle.std.specs.Prelude.{ℕ, ◌+◌, ◌<◌, ◌≡◌, Bool, true, false, cond, List, [], ◌++◌, leb, ℤ, pos, length, take}
-use Rattle.std.specs.Int.Signed.{lt_z}
-use Rattle.io.specs.Counts.{clamp_len}
+use Rattle.std.specs.Prelude.{ℕ, zero, suc, ◌+◌, ◌<◌, ◌≡◌, List, [], ◌++◌, length, take, ⊤, Option, Some, None, Result, Ok, Err, IsOk, IsErr, OnOk}
+use Rattle.std.specs.Io.KnownBytes.{Keeps, Appends, Consumes, IsAtEnd}
 use Rattle.session.specs.Meaning.{session_output}
-use Rattle.session.specs.Promises.{Held, Lent, lent_of}
-use Rattle.session.specs.Whole.{Reached, ReachedLimit, Carries, CarriesLimit, RanAll}
-use Rattle.pchelodar.specs.declared.Progress.{Progress}
-use Rattle.pchelodar.specs.declared.Progress.TheVariants as progress
+use Rattle.session.specs.Promises.{Held, Lent, lent_of, OpenEnsures, FinishEnsures}
+use Rattle.session.specs.Whole.{Fed, Reached, ReachedLimit, CarriesLimit, RanAll}
+use Rattle.pchelodar.specs.declared.Error.{Error}
+use Rattle.pchelodar.specs.declared.Error.TheVariants as error
 
 -- ---- what a write said
 
--- after_write: it failed where it said so, and else the run goes on as it would
-abbrev pub after_write : Bool → Progress → Progress
-after_write true next = next
-after_write false next = progress.WriteFailed
+-- after_write: it failed where it said so
+abbrev pub after_write : {E : Type 0} → Result ⊤ E → Result ⊤ Error
+after_write (Ok x) = Ok x
+after_write (Err e) = Err error.WriteFailed
 
--- a write failed exactly where it said so: how a run goes on or ended, and what its last write said, true where there
--- was none
-abbrev pub Told : Progress → Bool → Type 0
-Told progress.Onward said = said ≡ true
-Told progress.InputEnded said = said ≡ true
-Told progress.ReadFailed said = said ≡ true
-Told progress.WriteFailed said = said ≡ false
-Told progress.TooLong said = said ≡ true
+-- a write failed exactly where it said so: what follows it, and what it said
+abbrev pub Told : {E : Type 0} → Result ⊤ Error → Result ⊤ E → Type 0
+Told (Ok x) said = IsOk said
+Told (Err error.ReadFailed) said = IsOk said
+Told (Err error.WriteFailed) said = IsErr said
+Told (Err error.TooLong) said = IsOk said
 
--- after_feed, of bytes from one place up to another: a session that took none has come to its limit
-abbrev pub after_feed : ℕ → ℕ → Progress
-after_feed from to = cond (leb to from) progress.TooLong progress.Onward
+-- write: these bytes were written, or the write failed
+unfoldable pub Wrote : List ℕ → Option (List ℕ) → Option (List ℕ) → Result ⊤ Error → Type 0
+Wrote bytes w w' (Ok x) = Appends w w' bytes
+Wrote bytes w w' (Err error.ReadFailed) = ⊥
+Wrote bytes w w' (Err error.WriteFailed) = Unit {0}
+Wrote bytes w w' (Err error.TooLong) = ⊥
 
--- feed_chunk: all bytes of the chunk were fed, in order, or the limit was reached, or a write failed; it neither reads
--- nor ends the input
-unfoldable pub ChunkFed : List ℕ → Held → Held → Progress → Type 0
-ChunkFed chunk h h' progress.Onward = Carries chunk h h'
-ChunkFed chunk h h' progress.InputEnded = ⊥
-ChunkFed chunk h h' progress.ReadFailed = ⊥
-ChunkFed chunk h h' progress.WriteFailed = Unit {0}
-ChunkFed chunk h h' progress.TooLong = CarriesLimit h h'
+-- after_feed, of how many bytes were taken: a session that took none has come to its limit
+abbrev pub after_feed : ℕ → Result ℕ Error
+after_feed zero = Err error.TooLong
+after_feed (suc n) = Ok (suc n)
+
+-- from one to the other these bytes were fed, and what they printed was written: of a writer the bytes that it held and
+-- those that it holds, where they are known
+pub record FedOn (bytes : List ℕ) (h h' : Held) (w w' : Option (List ℕ)) : Type 0 where
+  pub text : List ℕ
+  pub feeds : Fed h bytes text h'
+  pub written : Appends w w' text
+
+-- feed: so many bytes from the front were fed, or the limit was reached, or a write failed
+unfoldable pub StepFed : List ℕ → Held → Held → Option (List ℕ) → Option (List ℕ) → Result ℕ Error → Type 0
+StepFed bytes h h' w w' (Ok n) = FedOn (take n bytes) h h' w w'
+StepFed bytes h h' w w' (Err error.ReadFailed) = ⊥
+StepFed bytes h h' w w' (Err error.WriteFailed) = Unit {0}
+StepFed bytes h h' w w' (Err error.TooLong) = CarriesLimit h h'
+
+-- feed_chunk: all bytes of the chunk were fed, in order, or the limit was reached, or a write failed; it does not read
+unfoldable pub ChunkFed : List ℕ → Held → Held → Option (List ℕ) → Option (List ℕ) → Result ⊤ Error → Type 0
+ChunkFed chunk h h' w w' (Ok x) = FedOn chunk h h' w w'
+ChunkFed chunk h h' w w' (Err error.ReadFailed) = ⊥
+ChunkFed chunk h h' w w' (Err error.WriteFailed) = Unit {0}
+ChunkFed chunk h h' w w' (Err error.TooLong) = CarriesLimit h h'
 
 -- ---- what a read returned
 
--- one read: what it returned, and the buffer as it left it
+-- one read: what it returned, how many bytes or that it failed, and the buffer as it left it
 pub record Read : Type 0 where
-  pub got : ℤ
+  pub got : Option ℕ
   pub buffer : List ℕ
 
--- the two, in this order
-abbrev pub read_of : ℤ → List ℕ → Read
-read_of got buffer = record { got = got; buffer = buffer }
+-- what it returned, whatever it failed with
+abbrev pub returned : {E : Type 0} → Result ℕ E → Option ℕ
+returned (Ok n) = Some n
+returned (Err e) = None
 
--- how many bytes it brought: as many as it returned, by the kit's clamp to the buffer
-abbrev pub size : Read → ℕ
-size r = clamp_len r.got (length r.buffer)
+-- the two, in this order
+abbrev pub read_of : {E : Type 0} → Result ℕ E → List ℕ → Read
+read_of got buffer = record { got = returned got; buffer = buffer }
+
+-- how many bytes it brought
+abbrev pub count_of : Option ℕ → ℕ
+count_of (Some n) = n
+count_of None = 0
 
 -- the bytes that it brought: the front of the buffer
 abbrev pub brought : Read → List ℕ
-brought r = take (size r) r.buffer
+brought r = take (count_of r.got) r.buffer
 
--- the read failed: it returned a number below 0
+-- the read failed: it said so
 abbrev pub Failed : Read → Type 0
-Failed r = lt_z r.got (pos 0) ≡ true
+Failed r = r.got ≡ None
 
 -- it found the end of the input: it did not fail, and brought no byte
 abbrev pub FoundEnd : Read → Type 0
-FoundEnd r = (lt_z r.got (pos 0) ≡ false) × (size r ≡ 0)
+FoundEnd r = r.got ≡ Some 0
+
+-- what is fed of a read that brought bytes, and how many are handed on
+unfoldable pub BroughtFed : Read → Held → Held → Option (List ℕ) → Option (List ℕ) → Result ℕ Error → Type 0
+BroughtFed r h h' w w' (Ok n) = (n ≡ count_of r.got) × FedOn (brought r) h h' w w'
+BroughtFed r h h' w w' (Err error.ReadFailed) = ⊥
+BroughtFed r h h' w w' (Err error.WriteFailed) = Unit {0}
+BroughtFed r h h' w w' (Err error.TooLong) = CarriesLimit h h'
 
 -- after_read, by what the read came to: where it failed or found the end of the input, the run ends so and nothing
--- changes; else just the bytes that it brought are fed
-pub record AfterRead (r : Read) (h h' : Held) (p : Progress) : Type 0 where
-  pub failed : Failed r → (p ≡ progress.ReadFailed) × (h' ≡ h)
-  pub ended : FoundEnd r → (p ≡ progress.InputEnded) × (h' ≡ h)
-  pub some : 0 < size r → ChunkFed (brought r) h h' p
+-- changes or is written; else just the bytes that it brought are fed
+pub record AfterRead (r : Read) (h h' : Held) (w w' : Option (List ℕ)) (p : Result ℕ Error) : Type 0 where
+  pub failed : Failed r → (p ≡ Err error.ReadFailed) × (h' ≡ h) × Keeps w w'
+  pub ended : FoundEnd r → (p ≡ Ok 0) × (h' ≡ h) × Keeps w w'
+  pub some : 0 < count_of r.got → BroughtFed r h h' w w' p
+
+-- what follows a read says what it came to: it failed, or found the input ended
+abbrev pub Heard : Result ℕ Error → Read → Type 0
+Heard (Ok zero) r = FoundEnd r
+Heard (Ok (suc n)) r = 0 < count_of r.got
+Heard (Err error.ReadFailed) r = Failed r
+Heard (Err error.WriteFailed) r = 0 < count_of r.got
+Heard (Err error.TooLong) r = 0 < count_of r.got
 
 -- ---- all reads
 
 -- so many reads, one after the other, each of which brought a byte or more: all bytes that they brought, in order.
--- Which reads they were no contract can say, since that of `read` does not: that they are those of standard input, one
--- after the other, is read off `read_all`
+-- Where it is known what a reader will give they are its bytes (`ReadsFed`); of one of which it is not known, no
+-- contract can say which reads they were: that is read off `read_all`
 pub data Intake : ℕ → List ℕ → Type 0 where
   none : Intake 0 []
-  next : {n : ℕ} {bytes : List ℕ} → Intake n bytes → (r : Read) → 0 < size r → Intake (n + 1) (bytes ++ brought r)
+  next : {n : ℕ} {bytes : List ℕ} → Intake n bytes → (r : Read) → 0 < length (brought r) → Intake (n + 1) (bytes ++ brought r)
 
--- from one to the other all bytes that so many reads brought were fed
-pub record ReadsFed (n : ℕ) (h h' : Held) : Type 0 where
+-- what is known of the streams: what the reader will give from here on, and what the writer holds
+pub record Known : Type 0 where
+  pub ahead : Option (List ℕ)
+  pub holds : Option (List ℕ)
+
+-- the two, in this order
+abbrev pub known : Option (List ℕ) → Option (List ℕ) → Known
+known a w = record { ahead = a; holds = w }
+
+-- from one to the other all bytes that so many reads brought were fed, which the reader gave, and what they printed was
+-- written
+pub record ReadsFed (n : ℕ) (h h' : Held) (k k' : Known) : Type 0 where
   pub bytes : List ℕ
   pub reads : Intake n bytes
-  pub carries : Carries bytes h h'
+  pub fed : FedOn bytes h h' k.holds k'.holds
+  pub given : Consumes k.ahead k'.ahead bytes
 
 -- the same of some reads
-pub record SomeFed (h h' : Held) : Type 0 where
+pub record SomeFed (h h' : Held) (k k' : Known) : Type 0 where
   pub number : ℕ
-  pub fed : ReadsFed number h h'
+  pub fed : ReadsFed number h h' k k'
 
--- a run ended as its last read says: it failed, or found the input ended
-abbrev pub Heard : Progress → Read → Type 0
-Heard progress.Onward r = Unit {0}
-Heard progress.InputEnded r = FoundEnd r
-Heard progress.ReadFailed r = Failed r
-Heard progress.WriteFailed r = Unit {0}
-Heard progress.TooLong r = Unit {0}
-
--- read_all: all that the reads brought was fed, up to the end of the input, or to where it could not be read. It stops
--- before that only where a write failed, or at the limit
-unfoldable pub AllRead : Held → Held → Progress → Type 0
-AllRead h h' progress.Onward = ⊥
-AllRead h h' progress.InputEnded = SomeFed h h'
-AllRead h h' progress.ReadFailed = SomeFed h h'
-AllRead h h' progress.WriteFailed = Unit {0}
-AllRead h h' progress.TooLong = CarriesLimit h h'
+-- read_all, with so many places to read into: all that the reads brought was fed, up to the end of the input, or to
+-- where it could not be read. It stops before that only where a write failed, or at the limit
+unfoldable pub AllRead : ℕ → Held → Held → Known → Known → Result ⊤ Error → Type 0
+AllRead places h h' k k' (Ok x) = SomeFed h h' k k' × (0 < places → IsAtEnd k'.ahead)
+AllRead places h h' k k' (Err error.ReadFailed) = SomeFed h h' k k'
+AllRead places h h' k k' (Err error.WriteFailed) = Unit {0}
+AllRead places h h' k k' (Err error.TooLong) = CarriesLimit h h'
 
 -- a session that was opened on this query list and these tables and fed all that so many reads brought
 pub record ReachedReads (lent : Lent) (h : Held) : Type 0 where
@@ -117,24 +157,39 @@ pub record ReachedReads (lent : Lent) (h : Held) : Type 0 where
   pub reads : Intake number bytes
   pub reached : Reached lent bytes h
 
--- what conclude is handed
-unfoldable pub Handed : Lent → Held → Progress → Type 0
-Handed lent h progress.Onward = ⊥
-Handed lent h progress.InputEnded = ReachedReads lent h
-Handed lent h progress.ReadFailed = ReachedReads lent h
-Handed lent h progress.WriteFailed = Unit {0}
-Handed lent h progress.TooLong = ReachedLimit lent h
-
 -- ---- the whole run
 
--- conclude, by how the reads ended and what the last write said: where the input ended that was the write of the
--- totals, and any other end stays as it is
-abbrev pub after_reads : Progress → Bool → Progress
-after_reads progress.Onward said = progress.Onward
-after_reads progress.InputEnded said = after_write said progress.InputEnded
-after_reads progress.ReadFailed said = progress.ReadFailed
-after_reads progress.WriteFailed said = progress.WriteFailed
-after_reads progress.TooLong said = progress.TooLong
+-- the session was finished, and what stands at the front of the output was written
+pub record Finished (h : Held) (old : List ℕ) (left : Lent) (new : List ℕ) (w w' : Option (List ℕ)) : Type 0 where
+  pub filled : ℕ
+  pub finish : FinishEnsures h old left new filled
+  pub written : Appends w w' (take filled new)
+
+-- conclude: the session was finished, or a write failed
+unfoldable pub Concludes : Held → List ℕ → Lent → List ℕ → Option (List ℕ) → Option (List ℕ) → Result ⊤ Error → Type 0
+Concludes h old left new w w' (Ok x) = Finished h old left new w w'
+Concludes h old left new w w' (Err error.ReadFailed) = ⊥
+Concludes h old left new w w' (Err error.WriteFailed) = Unit {0}
+Concludes h old left new w w' (Err error.TooLong) = ⊥
+
+-- the run's end, by what the reads came to and what came of the totals: any other end of the reads than the input's is
+-- its own
+abbrev pub after_reads : Result ⊤ Error → Result ⊤ Error → Result ⊤ Error
+after_reads (Ok x) totals = totals
+after_reads (Err e) totals = Err e
+
+-- run, with so many places to read into: opened on these, all read, and concluded where the input ended
+pub record Ended (places : ℕ) (lent left : Lent) (new : List ℕ) (k k' : Known) (p : Result ⊤ Error) : Type 0 where
+  pub first : Held
+  pub opens : OpenEnsures lent first
+  pub read : Result ⊤ Error
+  pub last : Held
+  pub midway : Known
+  pub reads : AllRead places first last k midway read
+  pub old : List ℕ
+  pub totals : Result ⊤ Error
+  pub concludes : OnOk read (Concludes last old left new midway.holds k'.holds totals)
+  pub ends : p ≡ after_reads read totals
 
 -- a run to its end, which leaves the query list, the tables and the output like this: the session of all bytes that
 -- were fed, opened on these, is whole
@@ -152,12 +207,11 @@ pub record BrokenOff (Broken : Held → Type 0) (left : Lent) : Type 0 where
 
 -- run: the whole session, or one that was broken off since a read or a write failed, or after 2^64 - 2 bytes. Where a
 -- write failed nothing is promised
-unfoldable pub Concluded : Lent → Lent → List ℕ → Progress → Type 0
-Concluded lent left new progress.Onward = ⊥
-Concluded lent left new progress.InputEnded = RanReads lent left new
-Concluded lent left new progress.ReadFailed = BrokenOff (ReachedReads lent) left
-Concluded lent left new progress.WriteFailed = Unit {0}
-Concluded lent left new progress.TooLong = BrokenOff (ReachedLimit lent) left
+unfoldable pub Concluded : Lent → Lent → List ℕ → Result ⊤ Error → Type 0
+Concluded lent left new (Ok x) = RanReads lent left new
+Concluded lent left new (Err error.ReadFailed) = BrokenOff (ReachedReads lent) left
+Concluded lent left new (Err error.WriteFailed) = Unit {0}
+Concluded lent left new (Err error.TooLong) = BrokenOff (ReachedLimit lent) left
 
 -- the claim about such a run: what was put into the output, in all, is the session of all bytes that were fed
 abbrev pub WholeRun : Type 0

@@ -2,360 +2,234 @@
 
 // The session program (document 01, "Session lines"): it reads standard input, calls the session, and writes standard
 // output.
-ghost use Rattle.std.specs.Prelude.{◌≡◌, true, ◌≤◌, length, min, pos, negsuc, MatchResult};
-ghost use Rattle.board.specs.Tables.{tables};
+ghost use Rattle.std.specs.Prelude.{◌≡◌, true, ◌<◌, ◌≤◌, length, take, IfOk, OnOk, IfSome};
+ghost use Rattle.std.specs.Io.{ReadsAtMost};
+ghost use Rattle.std.specs.Io.KnownBytes.{Appends};
 ghost use Rattle.parse.specs.Kept.{kept_length};
-ghost use Rattle.session.specs.Promises.{held, Lent, lent, lent_long, finish_room};
-ghost use Rattle.pchelodar.specs.Promises.{Told, after_write, after_feed, ChunkFed, read_of, AfterRead, Heard, AllRead, Handed, after_reads, Concluded};
+ghost use Rattle.session.specs.Meaning.{session_output};
+ghost use Rattle.session.specs.Promises.{lent_long, lent_of, finish_room};
+ghost use Rattle.pchelodar.specs.Promises.{after_write, after_feed, Told, known, read_of, Wrote, StepFed, ChunkFed, AfterRead, Heard, AllRead, Concludes, Ended, Concluded};
 
+use board::tables::LentTables;
 use deque::ring::CAPACITY;
+use engine::state::State;
 use parse::kept::KEPT;
 use registry::list::LIST_PLACES;
 use session::stream::Session;
-use std::io::{Read, Stdin};
-use window::count::Count;
+use std::io::{Read, Write};
+use std::{fmt, io};
 
-// The streams that are written, by their numbers.
-const STDOUT_FILENO: i32 = 1;
+// The places of the chunk that is read into, and of the output.
+const BUFFER: usize = 65536;
 
-const STDERR_FILENO: i32 = 2;
-
-// How a run goes on, or ended.
+// What ends a run before its time.
 #[derive(Clone, Copy)]
-enum Progress {
-    Onward,
-    InputEnded,
+enum Error {
     ReadFailed,
     WriteFailed,
     TooLong,
 }
 
-// After a chunk: the session, how the run goes on, and what the last write said.
-#[derive(Clone, Copy)]
-struct ChunkEnd {
-    session: Session,
-    progress: Progress,
-    said: bool,
-}
-
-// After all reads: the same, with what the last of them returned.
-#[derive(Clone, Copy)]
-struct ReadsEnd {
-    session: Session,
-    progress: Progress,
-    got: isize,
-    said: bool,
-}
-
-// How the run ended, with what the last read returned and the last write said.
-#[derive(Clone, Copy)]
-struct RunEnd {
-    progress: Progress,
-    got: isize,
-    said: bool,
-}
-
-// What follows a write: it failed where it said so, and else the run goes on as it would.
-fn after_write(said: bool, next: Progress) -> Progress
-    ensures { result ≡ after_write said next }
-{
-    if !said {
-        return Progress::WriteFailed;
+impl fmt::Display for Error {
+    fn fmt<W: fmt::Write>(&self, f: &mut fmt::Formatter<W>) -> fmt::Result {
+        let what = match self {
+            Error::ReadFailed => "standard input cannot be read",
+            Error::WriteFailed => "standard output cannot be written",
+            Error::TooLong => "the input is longer than can be counted",
+        };
+        write!(f, "pchelodar: {what}: what was printed is not complete")
     }
-    next
 }
 
-// What follows bytes from one place up to another: a session that took none has come to its limit.
-fn after_feed(from: usize, to: usize) -> Progress
-    ensures { result ≡ after_feed from to }
+// What follows a write: it failed where it said so.
+fn after_write(said: io::Result<()>) -> Result<(), Error>
+    ensures by { result ≡ after_write said }
+    ensures told { Told result said }
 {
-    if to <= from {
-        return Progress::TooLong;
+    match said {
+        Ok(()) => Ok(()),
+        Err(_) => Err(Error::WriteFailed),
     }
-    Progress::Onward
 }
 
-// All bytes of a chunk. What they print is written whenever the output is nearly full, and at the chunk's end.
-fn feed_chunk(
-    session: Session,
-    list: &mut [u32],
-    line: &mut [u8],
-    starts: &mut [Count],
-    sums: &mut [i64],
-    max_starts: &mut [Count],
-    max_values: &mut [i32],
-    min_starts: &mut [Count],
-    min_values: &mut [i32],
-    chunk: &[u8],
-    out: &mut [u8],
-) -> ChunkEnd
-    requires { finish_room ≤ length out.old }
-    ensures { (ChunkFed chunk.now
-        (held session list.old line.old (tables starts.old sums.old max_starts.old max_values.old min_starts.old min_values.old))
-        (held result.session list.new line.new (tables starts.new sums.new max_starts.new max_values.new min_starts.new min_values.new)) result.progress) × Told result.progress result.said }
+// What follows a session's call that took so many bytes: one that took none has come to its limit.
+fn after_feed(taken: usize) -> Result<usize, Error>
+    ensures { result ≡ after_feed taken }
 {
-    let mut held = session;
-    let mut from = 0;
-    while from < chunk.len() {
+    if taken == 0 {
+        return Err(Error::TooLong);
+    }
+    Ok(taken)
+}
+
+// What a run holds: the session, what is lent to it, and the output that it prints into.
+#[derive(Drop)]
+struct Memory<'a> {
+    session: Session,
+    list: &'a mut [u32],
+    line: &'a mut [u8],
+    tables: LentTables<'a>,
+    out: &'a mut [u8],
+    ghost room: { finish_room ≤ length out.now },
+}
+
+impl Memory<'_> {
+    ghost use Rattle.pchelodar.specs.Memories.{held_of, SameMemory};
+
+    // What was printed, so many bytes, is written.
+    #[tactic(auto, using(crate::proofs::Composing::wrote))]
+    fn write<W: Write>(&self, at: usize, output: &mut W) -> Result<(), Error>
+        requires within { at ≤ length self.now.out.now }
+        ensures wrote { Wrote (take at self.now.out.now) (W.contents output.old) (W.contents output.new) result }
+    {
+        after_write(output.write_all(&self.out[..at]))
+    }
+
+    // Bytes from the front of some: how many were taken. What they print is written.
+    fn feed<W: Write>(&mut self, bytes: &[u8], output: &mut W) -> Result<usize, Error>
+        requires some { 0 < length bytes.now }
+        ensures same { SameMemory self.old self.new }
+        ensures taken { IfOk result (λ n. (0 < n) × (n ≤ length bytes.now)) }
+        ensures fed { StepFed bytes.now (held_of self.old) (held_of self.new)
+            (W.contents output.old) (W.contents output.new) result }
+    {
         let taken = session::stream::feed(
-            held, list, line, starts, sums, max_starts, max_values, min_starts, min_values, chunk,
-            from, out,
+            self.session,
+            self.list,
+            self.line,
+            &mut self.tables,
+            bytes,
+            0,
+            self.out,
         );
-        held = taken.session;
-        let to = taken.to;
-        let at = taken.at;
-        let said = io::write_all(STDOUT_FILENO, &out[..at]);
-        let progress = after_write(said, after_feed(from, to));
-        match progress {
-            Progress::Onward => {}
-            _ => return ChunkEnd {
-                session: held,
-                progress,
-                said,
-            },
+        self.session = taken.session;
+        self.write(taken.at, output)?;
+        after_feed(taken.to)
+    }
+
+    // All bytes of a chunk. What they print is written whenever the output is nearly full, and at the chunk's end.
+    fn feed_chunk<W: Write>(&mut self, chunk: &[u8], output: &mut W) -> Result<(), Error>
+        ensures same { SameMemory self.old self.new }
+        ensures fed { ChunkFed chunk.now (held_of self.old) (held_of self.new)
+            (W.contents output.old) (W.contents output.new) result }
+    {
+        let mut rest = chunk;
+        while !rest.is_empty() {
+            let taken = self.feed(rest, output)?;
+            rest = &rest[taken..];
         }
-        from = to;
+        Ok(())
     }
-    ChunkEnd {
-        session: held,
-        progress: Progress::Onward,
-        said: true,
-    }
-}
 
-// What follows a read of standard input into the chunk, by what it returned: below 0 it failed; no byte means that the
-// input ended; else as many bytes as it returned, and no more than there are, are fed from the chunk's front.
-fn after_read(
-    got: isize,
-    session: Session,
-    list: &mut [u32],
-    line: &mut [u8],
-    starts: &mut [Count],
-    sums: &mut [i64],
-    max_starts: &mut [Count],
-    max_values: &mut [i32],
-    min_starts: &mut [Count],
-    min_values: &mut [i32],
-    chunk: &[u8],
-    out: &mut [u8],
-) -> ChunkEnd
-    requires { finish_room ≤ length out.old }
-    ensures { (AfterRead (read_of got chunk.now)
-        (held session list.old line.old (tables starts.old sums.old max_starts.old max_values.old min_starts.old min_values.old))
-        (held result.session list.new line.new (tables starts.new sums.new max_starts.new max_values.new min_starts.new min_values.new)) result.progress) × Told result.progress result.said }
-{
-    if got < 0 {
-        return ChunkEnd {
-            session,
-            progress: Progress::ReadFailed,
-            said: true,
+    // What follows a read into the chunk, by what it returned: it failed; it brought no byte, which means that the input
+    // ended; or the bytes that it brought are fed, from the chunk's front. How many it brought is handed on.
+    fn after_read<W: Write>(
+        &mut self,
+        got: io::Result<usize>,
+        chunk: &[u8],
+        output: &mut W,
+    ) -> Result<usize, Error>
+        requires within { ReadsAtMost got chunk.now }
+        ensures same { SameMemory self.old self.new }
+        ensures fed { AfterRead (read_of got chunk.now) (held_of self.old) (held_of self.new)
+            (W.contents output.old) (W.contents output.new) result }
+        ensures heard { Heard result (read_of got chunk.now) }
+    {
+        let count = match got {
+            Ok(count) => count,
+            Err(_) => return Err(Error::ReadFailed),
         };
+        if count == 0 {
+            return Ok(0);
+        }
+        self.feed_chunk(&chunk[..count], output)?;
+        Ok(count)
     }
-    let count = io::count(got, chunk);
-    if count == 0 {
-        return ChunkEnd {
-            session,
-            progress: Progress::InputEnded,
-            said: true,
-        };
-    }
-    feed_chunk(
-        session,
-        list,
-        line,
-        starts,
-        sums,
-        max_starts,
-        max_values,
-        min_starts,
-        min_values,
-        &chunk[..count],
-        out,
-    )
-}
 
-// What a read returned, as one number: how many bytes it brought, and -1 where it failed.
-fn returned(read: std::io::Result<usize>) -> isize
-    ensures { MatchResult read (λ n. result ≡ pos (min n 9223372036854775807)) (λ e. result ≡ negsuc 0) }
-{
-    match read {
-        Ok(count) => {
-            if count <= 9_223_372_036_854_775_807 {
-                count as isize
-            } else {
-                9_223_372_036_854_775_807
+    // The input to its end, read by read. Every loop has to end: so many reads are more than a machine can make in a
+    // century.
+    fn read_all<R: Read, W: Write>(
+        &mut self,
+        input: &mut R,
+        chunk: &mut [u8],
+        output: &mut W,
+    ) -> Result<(), Error>
+        ensures same { SameMemory self.old self.new }
+        ensures read { AllRead (length chunk.old) (held_of self.old) (held_of self.new)
+            (known (R.remaining input.old) (W.contents output.old))
+            (known (R.remaining input.new) (W.contents output.new)) result }
+    {
+        for _ in 0..u64::MAX {
+            let got = input.read(chunk);
+            if self.after_read(got, chunk, output)? == 0 {
+                return Ok(());
             }
         }
-        Err(_) => -1,
+        Err(Error::TooLong)
     }
-}
 
-// Standard input to its end. A loop needs a number that falls: so many reads are more than a machine can make in a
-// century.
-fn read_all(
-    input: &mut Stdin,
-    session: Session,
-    list: &mut [u32],
-    line: &mut [u8],
-    starts: &mut [Count],
-    sums: &mut [i64],
-    max_starts: &mut [Count],
-    max_values: &mut [i32],
-    min_starts: &mut [Count],
-    min_values: &mut [i32],
-    chunk: &mut [u8],
-    out: &mut [u8],
-) -> ReadsEnd
-    requires { finish_room ≤ length out.old }
-    ensures { (AllRead (held session list.old line.old (tables starts.old sums.old max_starts.old max_values.old min_starts.old min_values.old))
-        (held result.session list.new line.new (tables starts.new sums.new max_starts.new max_values.new min_starts.new min_values.new)) result.progress)
-        × (Heard result.progress (read_of result.got chunk.new) × Told result.progress result.said) }
-{
-    let mut held = session;
-    let mut reads: u64 = 18_446_744_073_709_551_615;
-    while 0 < reads {
-        reads -= 1;
-        let got = returned(input.read(chunk));
-        let next = after_read(
-            got, held, list, line, starts, sums, max_starts, max_values, min_starts, min_values,
-            chunk, out,
+    // The end of the input: what a last line prints, and the totals.
+    fn conclude<W: Write>(&mut self, output: &mut W) -> Result<(), Error>
+        ensures same { SameMemory self.old self.new }
+        ensures concluded { Concludes (held_of self.old) self.old.out.now (lent_of (held_of self.new)) self.new.out.now
+            (W.contents output.old) (W.contents output.new) result }
+    {
+        let at = session::stream::finish(
+            self.session,
+            self.list,
+            self.line,
+            &mut self.tables,
+            self.out,
         );
-        held = next.session;
-        let progress = next.progress;
-        let said = next.said;
-        match progress {
-            Progress::Onward => {}
-            _ => return ReadsEnd {
-                session: held,
-                progress,
-                got,
-                said,
-            },
-        }
+        self.write(at, output)
     }
-    ReadsEnd {
-        session: held,
-        progress: Progress::TooLong,
-        got: 0,
-        said: true,
+
+    // A whole session, of what the reader gives. Whatever the session was before, it is opened first.
+    fn run<R: Read, W: Write>(
+        &mut self,
+        input: &mut R,
+        chunk: &mut [u8],
+        output: &mut W,
+    ) -> Result<(), Error>
+        requires long { lent_long (lent_of (held_of self.old)) ≡ true }
+        requires line { kept_length ≤ length self.old.line.now }
+        ensures same { SameMemory self.old self.new }
+        ensures ended { Ended (length chunk.old) (lent_of (held_of self.old)) (lent_of (held_of self.new)) self.new.out.now
+            (known (R.remaining input.old) (W.contents output.old))
+            (known (R.remaining input.new) (W.contents output.new)) result }
+        ensures ran { Concluded (lent_of (held_of self.old)) (lent_of (held_of self.new)) self.new.out.now result }
+        ensures written { 0 < length chunk.old → OnOk result (IfSome (R.remaining input.old)
+            (λ xs. Appends (W.contents output.old) (W.contents output.new) (session_output xs))) }
+    {
+        self.session = session::stream::open(self.list, &mut self.tables);
+        self.read_all(input, chunk, output)?;
+        self.conclude(output)
     }
-}
-
-// The end of the input: the totals are printed only where the input was read to its end and all before them was
-// written.
-fn conclude(
-    done: ReadsEnd,
-    list: &mut [u32],
-    line: &[u8],
-    starts: &mut [Count],
-    sums: &mut [i64],
-    max_starts: &mut [Count],
-    max_values: &mut [i32],
-    min_starts: &mut [Count],
-    min_values: &mut [i32],
-    out: &mut [u8],
-) -> RunEnd
-    requires { finish_room ≤ length out.old }
-    ensures { ((result.progress ≡ after_reads done.progress result.said) × (result.got ≡ done.got))
-        × (((l : Lent) → Handed l (held done.session list.old line.now (tables starts.old sums.old max_starts.old max_values.old min_starts.old min_values.old)) done.progress
-        → Concluded l (lent list.new (tables starts.new sums.new max_starts.new max_values.new min_starts.new min_values.new)) out.new result.progress)
-        × (Told done.progress done.said → Told result.progress result.said)) }
-{
-    let session = done.session;
-    let progress = done.progress;
-    let at = match progress {
-        Progress::InputEnded => session::stream::finish(
-            session, list, line, starts, sums, max_starts, max_values, min_starts, min_values, out,
-        ),
-        _ => return RunEnd {
-            progress,
-            got: done.got,
-            said: done.said,
-        },
-    };
-    let said = io::write_all(STDOUT_FILENO, &out[..at]);
-    RunEnd {
-        progress: after_write(said, Progress::InputEnded),
-        got: done.got,
-        said,
-    }
-}
-
-// What ended the run before its time, on standard error.
-fn report_failure(progress: Progress) {
-    match progress {
-        Progress::ReadFailed => message(
-            b"pchelodar: standard input cannot be read: what was printed is not complete\n",
-        ),
-        Progress::WriteFailed => message(
-            b"pchelodar: standard output cannot be written: what was printed is not complete\n",
-        ),
-        Progress::TooLong => message(
-            b"pchelodar: the input is longer than can be counted: what was printed is not complete\n",
-        ),
-        _ => {}
-    }
-}
-
-fn message(text: &[u8]) {
-    io::write_all(STDERR_FILENO, text);
-}
-
-// A whole session.
-fn run(
-    input: &mut Stdin,
-    list: &mut [u32],
-    line: &mut [u8],
-    starts: &mut [Count],
-    sums: &mut [i64],
-    max_starts: &mut [Count],
-    max_values: &mut [i32],
-    min_starts: &mut [Count],
-    min_values: &mut [i32],
-    chunk: &mut [u8],
-    out: &mut [u8],
-) -> RunEnd
-    requires { (lent_long (lent list.old (tables starts.old sums.old max_starts.old max_values.old min_starts.old min_values.old)) ≡ true) × ((kept_length ≤ length line.old) × (finish_room ≤ length out.old)) }
-    ensures { (Concluded (lent list.old (tables starts.old sums.old max_starts.old max_values.old min_starts.old min_values.old))
-        (lent list.new (tables starts.new sums.new max_starts.new max_values.new min_starts.new min_values.new)) out.new result.progress) × (Heard result.progress (read_of result.got chunk.new) × Told result.progress result.said) }
-{
-    let opened = session::stream::open(
-        list, starts, sums, max_starts, max_values, min_starts, min_values,
-    );
-    let done = read_all(
-        input, opened, list, line, starts, sums, max_starts, max_values, min_starts, min_values,
-        chunk, out,
-    );
-    conclude(
-        done, list, line, starts, sums, max_starts, max_values, min_starts, min_values, out,
-    )
 }
 
 fn main(rt: HostRuntime) {
-    let mut input = rt.stdin();
-    let mut list = [0u32; LIST_PLACES];
-    let mut line = [0u8; KEPT];
-    let mut starts: [Count; CAPACITY] = [0; CAPACITY];
-    let mut sums = [0i64; CAPACITY];
-    let mut max_starts: [Count; CAPACITY] = [0; CAPACITY];
-    let mut max_values = [0i32; CAPACITY];
-    let mut min_starts: [Count; CAPACITY] = [0; CAPACITY];
-    let mut min_values = [0i32; CAPACITY];
-    let mut chunk = io::large_buffer();
-    let mut out = io::large_buffer();
-    let ending = run(
-        &mut input,
-        &mut list,
-        &mut line,
-        &mut starts,
-        &mut sums,
-        &mut max_starts,
-        &mut max_values,
-        &mut min_starts,
-        &mut min_values,
-        &mut chunk,
-        &mut out,
-    );
-    let progress = ending.progress;
-    report_failure(progress);
+    let tables = LentTables {
+        starts: &mut [0; CAPACITY],
+        sums: &mut [0; CAPACITY],
+        max_starts: &mut [0; CAPACITY],
+        max_values: &mut [0; CAPACITY],
+        min_starts: &mut [0; CAPACITY],
+        min_values: &mut [0; CAPACITY],
+    };
+    let mut memory = Memory {
+        session: Session {
+            state: State::fresh(),
+            lines: 0,
+            kept: 0,
+        },
+        list: &mut [0; LIST_PLACES],
+        line: &mut [0; KEPT],
+        tables,
+        out: &mut [0; BUFFER],
+    };
+    let mut chunk = [0; BUFFER];
+    let ended = memory.run(&mut rt.stdin(), &mut chunk, &mut rt.stdout());
+    if let Err(error) = ended {
+        let _ = eprintln!(rt; "{error}");
+    }
 }

@@ -8,6 +8,7 @@ use borrow.Author.Tests.{eqb-true}
 use lib.Dec.{eqb, leb}
 use lib.IntN.{ℤ}
 use lib.ListN.{length}
+use Rattle.std.specs.Prelude.{Result, Ok, Err}
 use Rattle.window.specs.declared.refusal.Refusal.{Refusal}
 use Rattle.window.specs.declared.refusal.Refusal.TheVariants.{TableTooShort, Damaged, CountExhausted, AnswersTooShort}
 use Rattle.window.specs.Refusals.{refusal_number}
@@ -15,8 +16,6 @@ use Rattle.window.specs.Calls.{Call, start, register, withdraw, reading, totals,
 use Rattle.window.specs.Lists.{any}
 use Rattle.window.proofs.Lists.{and_left, and_right}
 use Rattle.registry.specs.Records.{Tidy}
-use Rattle.engine.specs.declared.calls.Answered.{Answered}
-use Rattle.engine.specs.declared.calls.Answered.TheVariants.{Answers, Refused}
 use Rattle.engine.specs.Machine.{machine_long}
 use Rattle.engine.specs.Outcomes.{reading_outcome}
 use Rattle.engine.specs.Promises.{Promise, InRows, Ensures, ReadingEnsures, StartEnsures}
@@ -57,11 +56,11 @@ numbered k (r ∷ rs) e = go (numbered k rs) (eqb k (refusal_number r)) refl e
 
 -- 0 returned so many answers, and any other number, being one of the call's own, its refusal
 answered : (v : ℤ) (places code given : ℕ) (after : List ℤ) → ((k : ℕ) → reading_code_outcome code given after ≡ refused k → InRows (reading v places) k)
-    → (a : Answered) × (reading_code_outcome code given after ≡ reading_outcome a after)
-answered v places zero given after own = (Answers given, refl)
+    → (a : Result ℕ Refusal) × (reading_code_outcome code given after ≡ reading_outcome a after)
+answered v places zero given after own = (Ok given, refl)
 answered v places (suc k) given after own =
     let r = numbered (suc k) (TableTooShort ∷ Damaged ∷ CountExhausted ∷ AnswersTooShort ∷ []) (own (suc k) refl) in
-    (Refused r.0, ap refused (sym r.1))
+    (Err r.0, ap refused (sym r.1))
 
 -- ---- one call
 

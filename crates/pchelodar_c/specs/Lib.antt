@@ -1,4 +1,3 @@
 pub mod Slices
 pub mod Promises
-pub mod PutBack
 pub mod Demand3

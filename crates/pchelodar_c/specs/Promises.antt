@@ -1,7 +1,8 @@
 -- What the five calls promise where everything is lent as numbers, for every input: what the engine's calls promise of
 -- what the numbers are read as, and that no other place is written.
 -- Assumes nothing.
-use Rattle.std.specs.Prelude.{ℕ, zero, suc, ◌≡◌, true, false, List, [], ◌∷◌, ℤ}
+use Rattle.std.specs.Prelude.{ℕ, zero, suc, ◌≡◌, true, false, List, [], ◌∷◌, ℤ, Ok, Err}
+use Rattle.window.specs.Refusals.{Verdict, refusal_number}
 use Rattle.window.specs.Calls.{Outcome, accepted, refused, totals}
 use Rattle.registry.specs.Records.{ListKept}
 use Rattle.board.specs.Tables.{KeptBeyond}
@@ -10,23 +11,30 @@ use Rattle.engine.specs.Promises.{Promise, Ensures, ReadingEnsures, places_after
 use Rattle.encoding.specs.Written.{state_numbers}
 use Rattle.pchelodar_c.specs.Slices.{Slices, state_long, slices_long, slices_machine}
 
--- ---- document 01's numbers and values for what the calls return: 0 is an acceptance, any other number the refusal's
+-- ---- document 01's numbers and values for what the calls return
+
+-- a returned code: 0 is an acceptance, with this outcome, and any other number the refusal's
+abbrev pub coded : ℕ → Outcome → Outcome
+coded zero o = o
+coded (suc k) o = refused (suc k)
+
+-- the code of what checks came to
+abbrev pub code_of : Verdict → ℕ
+code_of (Ok x) = 0
+code_of (Err refusal) = refusal_number refusal
 
 -- accepted start, register and withdraw calls return 0
 abbrev pub code_outcome : ℕ → Outcome
-code_outcome zero = accepted (0 ∷ []) []
-code_outcome (suc k) = refused (suc k)
+code_outcome code = coded code (accepted (0 ∷ []) [])
 
 -- an accepted reading returns the number of its answers at a place of its own, and they are read from the answer places
 -- in order
 abbrev pub reading_code_outcome : ℕ → ℕ → List ℤ → Outcome
-reading_code_outcome zero given places = accepted (given ∷ []) (answers_in given places)
-reading_code_outcome (suc k) given places = refused (suc k)
+reading_code_outcome code given places = coded code (accepted (given ∷ []) (answers_in given places))
 
 -- totals returns n, P, M and N at places of their own
 abbrev pub totals_code_outcome : ℕ → List ℕ → Outcome
-totals_code_outcome zero four = accepted four []
-totals_code_outcome (suc k) four = refused (suc k)
+totals_code_outcome code four = coded code (accepted four [])
 
 -- ---- the promises
 

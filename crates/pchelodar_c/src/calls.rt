@@ -1,70 +1,24 @@
 // The five calls by their names in C, on lent slices of numbers alone, the query list as it stands: no allocation,
 // nothing global. Each returns 0 where it is accepted, and else the number of the refusal.
-ghost use Rattle.std.specs.Prelude.{◌≡◌, ◌≤◌, length};
-ghost use Rattle.window.specs.Refusals.{refusal_number};
+ghost use Rattle.std.specs.Prelude.{◌≡◌};
 ghost use Rattle.window.specs.Calls.{register, withdraw};
 ghost use Rattle.board.specs.Tables.{tables};
 ghost use Rattle.engine.specs.Promises.{StartEnsures, Ensures};
-ghost use Rattle.encoding.specs.Written.{state_numbers};
 ghost use Rattle.pchelodar_c.specs.Slices.{slices};
-ghost use Rattle.pchelodar_c.specs.Promises.{code_outcome, reading_code_outcome, totals_code_outcome, OnNumbers, ReadingOnNumbers, TotalsOnNumbers};
-ghost use Rattle.pchelodar_c.specs.PutBack.{PutBack, ReadingBack, TotalsBack};
+ghost use Rattle.pchelodar_c.specs.Promises.{code_of, code_outcome, reading_code_outcome, totals_code_outcome, OnNumbers, ReadingOnNumbers, TotalsOnNumbers};
 
-use encoding::state::{STATE_NUMBERS, load_state, store_state};
-use engine::calls;
-use engine::calls::{Answered, ReadingReply, Reply, TotalsReply};
-use window::count::{Count, wide};
-use window::refusal::{Refusal, Verdict};
+use crate::numbers;
+use board::tables::{LentTables, SharedTables};
+use window::count::Count;
+use window::refusal::Refusal;
 
-// The number of the refusal where there is no room for the numbers of a state.
-fn no_room() -> u32
-    ensures { result ≡ refusal_number Refusal.TableTooShort }
+// What a call returns in C.
+fn code(verdict: Result<(), Refusal>) -> u32
+    ensures { result ≡ code_of verdict }
 {
-    let refusal = Refusal::TableTooShort;
-    refusal.number()
-}
-
-// The state after a start, a registration or a withdrawal is put back, where it was accepted.
-fn put_back(reply: Reply, state: &mut [u64]) -> u32
-    requires { state_numbers ≤ length state.old }
-    ensures { PutBack reply state.old result state.new }
-{
-    let verdict = reply.verdict;
     match verdict {
-        Verdict::Refused(refusal) => refusal.number(),
-        Verdict::Passed => {
-            store_state(state, reply.state);
-            0
-        }
-    }
-}
-
-// So is what a reading came to: the state, and how many answers there are.
-fn put_reading_back(reply: ReadingReply, state: &mut [u64], answered: &mut usize) -> u32
-    requires { state_numbers ≤ length state.old }
-    ensures { ReadingBack reply state.old answered.old result state.new answered.new }
-{
-    let outcome = reply.outcome;
-    match outcome {
-        Answered::Refused(refusal) => refusal.number(),
-        Answered::Answers(given) => {
-            store_state(state, reply.state);
-            *answered = given;
-            0
-        }
-    }
-}
-
-// So is what a call of totals came to: n, P, M and N.
-fn put_totals(reply: TotalsReply, totals: &mut [u64; 4]) -> u32
-    ensures { TotalsBack reply totals.old result totals.new }
-{
-    match reply {
-        TotalsReply::Refused(refusal) => refusal.number(),
-        TotalsReply::Totals(n, closed, max_comparisons, min_comparisons) => {
-            *totals = [wide(n), wide(closed), max_comparisons, min_comparisons];
-            0
-        }
+        Ok(()) => 0,
+        Err(refusal) => u32::from(refusal),
     }
 }
 
@@ -86,22 +40,15 @@ pub extern "C" fn pchelodar_start(
         (code_outcome result)
         (slices state.new queries.new (tables starts.new sums.new max_starts.new max_values.new min_starts.new min_values.new)) }
 {
-    if state.len() < STATE_NUMBERS {
-        return no_room();
-    }
-    put_back(
-        calls::start(
-            load_state(state),
-            queries,
-            starts,
-            sums,
-            max_starts,
-            max_values,
-            min_starts,
-            min_values,
-        ),
-        state,
-    )
+    let mut tables = LentTables {
+        starts,
+        sums,
+        max_starts,
+        max_values,
+        min_starts,
+        min_values,
+    };
+    code(numbers::start(state, queries, &mut tables))
 }
 
 // Register: the query joins the list with g = n. Refused with 1 to 8.
@@ -125,26 +72,15 @@ pub extern "C" fn pchelodar_register(
         (code_outcome result)
         (slices state.new queries.new (tables starts.new sums.new max_starts.new max_values.new min_starts.new min_values.new)) }
 {
-    if state.len() < STATE_NUMBERS {
-        return no_room();
-    }
-    put_back(
-        calls::register(
-            load_state(state),
-            queries,
-            starts,
-            sums,
-            max_starts,
-            max_values,
-            min_starts,
-            min_values,
-            number,
-            kind,
-            range,
-            slide,
-        ),
-        state,
-    )
+    let mut tables = LentTables {
+        starts,
+        sums,
+        max_starts,
+        max_values,
+        min_starts,
+        min_values,
+    };
+    code(numbers::register(state, queries, &mut tables, number, kind, range, slide))
 }
 
 // Withdraw: the query leaves, the others keep their order. Refused with 1, 2 and 9.
@@ -165,23 +101,15 @@ pub extern "C" fn pchelodar_withdraw(
         (code_outcome result)
         (slices state.new queries.new (tables starts.now sums.now max_starts.now max_values.now min_starts.now min_values.now)) }
 {
-    if state.len() < STATE_NUMBERS {
-        return no_room();
-    }
-    put_back(
-        calls::withdraw(
-            load_state(state),
-            queries,
-            starts,
-            sums,
-            max_starts,
-            max_values,
-            min_starts,
-            min_values,
-            number,
-        ),
-        state,
-    )
+    let tables = SharedTables {
+        starts,
+        sums,
+        max_starts,
+        max_values,
+        min_starts,
+        min_values,
+    };
+    code(numbers::withdraw(state, queries, tables, number))
 }
 
 // Reading: it joins the readings, and the due queries are answered, four places each, from the first place on. Refused
@@ -205,25 +133,15 @@ pub extern "C" fn pchelodar_reading(
         (reading_code_outcome result answered.new answers.new)
         (slices state.new queries.now (tables starts.new sums.new max_starts.new max_values.new min_starts.new min_values.new)) }
 {
-    if state.len() < STATE_NUMBERS {
-        return no_room();
-    }
-    put_reading_back(
-        calls::reading(
-            load_state(state),
-            queries,
-            starts,
-            sums,
-            max_starts,
-            max_values,
-            min_starts,
-            min_values,
-            answers,
-            value,
-        ),
-        state,
-        answered,
-    )
+    let mut tables = LentTables {
+        starts,
+        sums,
+        max_starts,
+        max_values,
+        min_starts,
+        min_values,
+    };
+    code(numbers::reading(state, queries, &mut tables, answers, answered, value))
 }
 
 // Totals: n, P, M and N are written, changing nothing else. Refused with 1 and 2.
@@ -243,20 +161,13 @@ pub extern "C" fn pchelodar_totals(
         (slices state.now queries.now (tables starts.now sums.now max_starts.now max_values.now min_starts.now min_values.now))
         (totals_code_outcome result totals.new) }
 {
-    if state.len() < STATE_NUMBERS {
-        return no_room();
-    }
-    put_totals(
-        calls::totals(
-            load_state(state),
-            queries,
-            starts,
-            sums,
-            max_starts,
-            max_values,
-            min_starts,
-            min_values,
-        ),
-        totals,
-    )
+    let tables = SharedTables {
+        starts,
+        sums,
+        max_starts,
+        max_values,
+        min_starts,
+        min_values,
+    };
+    code(numbers::totals(state, queries, tables, totals))
 }

@@ -2,23 +2,16 @@
 -- ascending number are in order where no two used records share a number, and where the records after the used ones are
 -- unused, all behind them is 0.
 -- Assumes nothing.
-use Prim.Native.Nat.{ℕ, zero, suc, ◌+◌, ◌-◌, ◌≤◌, ◌<◌, min}
-use mathlib.Core.Path.{◌≡◌, refl, sym, ap, ap₂, ◌∙◌, subst}
-use mathlib.Core.Bool.{Bool, true, false, ◌||◌}
-use mathlib.Core.List.{List, [], ◌∷◌, ◌++◌}
-use native.Mathlib.Numerals.{add-one}
-use native.Mathlib.Omega.{arith}
-use lib.Dec.{ltb, eqb}
-use lib.ListN.{length, get_or, take, drop, replicate, length-replicate, length-drop, take-append-drop, drop_of_length-le}
-use lib.Seq.{take_all, take_at, get_or-append-add}
-use borrow.Author.Tests.{ltb-false, eqb-false, ne_eqb}
+use Rattle.std.proofs.Common.{◌≡◌, ℕ, zero, suc, ◌+◌, ◌-◌, ◌≤◌, ◌<◌, min, Bool, true, false, ◌||◌, ltb, eqb, List, [], ◌∷◌, ◌++◌, length, get_or, take, drop, replicate, refl, sym, ap, ap₂, ◌∙◌, subst, arith, add-one, length-drop, take-append-drop, drop_of_length-le, take_all, take_at, get_or-append-add, ltb-false, ne_eqb}
+use borrow.Author.Tests.{eqb-false}
+use Rattle.std.proofs.lemmas.List.{length-replicate, get_or-replicate}
 use Rattle.window.specs.declared.query.Query.{Query}
 use Rattle.window.specs.Lists.{any, Each}
 use Rattle.window.specs.Queries.{Limits, query_limit}
 use Rattle.window.specs.Refusals.{has_number, is_registered, applying, field_checks, broken_record, shared_number, damaged}
 use Rattle.window.proofs.Lists.{or_neither, not_left, not_right, le_cases}
 use Rattle.window.proofs.Refusals.{any_passed, fields_passed}
-use Rattle.registry.specs.Records.{record_limit, order_at, list_places, tabulate, record_at, used, with_record, ordered, inserted, list_fits, unused, Tidy, ListKept}
+use Rattle.registry.specs.Records.{record_limit, order_at, list_places, tabulate, record_at, used, ordered, inserted, list_fits, unused, Tidy, ListKept}
 use Rattle.registry.specs.Edits.{PlacesIn, appended}
 use Rattle.registry.proofs.Tabulating.{tabulate_cong, tabulate-more, tabulated_at, part_tabulate}
 use Rattle.registry.proofs.Laying.{record-length, record-past, record-other, record_same, record-still, same_at, at-tidy}
@@ -29,29 +22,12 @@ use Rattle.records.specs.Laid.{written, placed, laid}
 use Rattle.records.specs.LentList.{filled_up}
 use Rattle.records.proofs.Editing.{filled-length}
 
--- ---- plain lists
-
--- a list of the same number throughout has no other
-get_d_replicate : {A : Type 0} (n i : ℕ) (a : A) → get_or (replicate n a) i a ≡ a
-get_d_replicate zero i a = refl
-get_d_replicate (suc n) zero a = refl
-get_d_replicate (suc n) (suc i) a = get_d_replicate n i a
-
 -- ---- the records
 
 pub written-length : (n : ℕ) (rs : List Query) (l : List ℕ) → length (written n rs l) ≡ length l
 unfolding written
 written-length zero rs l = refl
 written-length (suc n) rs l = record-length n (get_or rs n unused) (written n rs l) ∙ written-length n rs l
-
--- none is written at first, and then one more
-pub written_none : (rs : List Query) (l : List ℕ) → l ≡ written 0 rs l
-unfolding written
-written_none rs l = refl
-
-pub written-more : (i : ℕ) (rs : List Query) (l m m' : List ℕ) → m ≡ written i rs l → m' ≡ with_record i (get_or rs i unused) m → m' ≡ written (i + 1) rs l
-unfolding written
-written-more i rs l m m' e f = f ∙ ap (with_record i (get_or rs i unused)) e ∙ ap (λ (n : ℕ). written n rs l) (sym (add-one i))
 
 -- the numbers behind the records are as they were
 written_past : (n : ℕ) (rs : List Query) (l : List ℕ) → n ≤ record_limit → drop order_at (written n rs l) ≡ drop order_at l
@@ -76,15 +52,6 @@ written_at (suc n) rs l c w i h =
 as_joined : (k : ℕ) (l : List ℕ) → inserted k l ≡ appended k (record_at l k) l
 unfolding appended
 as_joined k l = ap (inserted k) (sym (record-still k l))
-
--- none is put in order at first, and then one more
-pub placed-none : (l : List ℕ) → l ≡ placed 0 l
-unfolding placed
-placed-none l = refl
-
-pub placed-more : (i : ℕ) (l m m' : List ℕ) → m ≡ placed i l → m' ≡ inserted i m → m' ≡ placed (i + 1) l
-unfolding placed
-placed-more i l m m' e f = f ∙ ap (inserted i) e ∙ ap (λ (n : ℕ). placed n l) (sym (add-one i))
 
 module _ (l : List ℕ) (w : list_places ≤ length l) where
   pub placed-length : (k : ℕ) → k ≤ record_limit → length (placed k l) ≡ length l
@@ -200,11 +167,6 @@ unplaced_long rs = omega (arith, written-length record_limit rs (replicate list_
 unplaced_at : (rs : List Query) (i : ℕ) → i < record_limit → record_at (unplaced rs) i ≡ get_or rs i unused
 unplaced_at rs i h = written_at record_limit rs (replicate list_places 0) (omega arith) (omega (arith, length-replicate {A = ℕ} list_places 0)) i h
 
--- how it is made
-pub laid_made : (k n : ℕ) (rs : List Query) (l m : List ℕ) → n ≡ min k record_limit → l ≡ written record_limit rs (replicate list_places 0) → m ≡ placed n l → m ≡ laid k rs
-unfolding laid
-laid_made k n rs l m e f g = g ∙ ap₂ placed e f
-
 -- it has as many numbers as the list asks
 pub laid-length : (k : ℕ) (rs : List Query) → length (laid k rs) ≡ list_places
 unfolding laid
@@ -254,7 +216,7 @@ module _ (k : ℕ) (rs : List Query) (c : k ≤ record_limit) where
       behind i a b =
           placed_past (unplaced rs) (unplaced_long rs) (min k record_limit) (omega arith) i (omega (arith, few))
           ∙ same_at order_at (order_at + i) (replicate list_places 0) (unplaced rs) (omega arith) (written_past record_limit rs (replicate list_places 0) (omega arith))
-          ∙ get_d_replicate list_places (order_at + i) 0
+          ∙ get_or-replicate list_places (order_at + i) 0 0 (omega arith)
 
   -- the places are in order where no two of the first k share a number, and all are above 0
   pub laid-ordered : k ≤ length rs → shared_number (take k rs) ≡ false → Each (λ (q : Query). 0 < q.number) (take k rs) → ordered k (laid k rs) ≡ true
@@ -306,7 +268,7 @@ module _ (qs : List Query) (c : length qs ≤ record_limit) where
   filled-tidy = laid-tidy (length qs) (filled_up qs) c (λ i a b.
       ap (λ (n : ℕ). get_or (filled_up qs) n unused) (is i a)
       ∙ get_or-append-add qs (replicate (record_limit - length qs) unused) (i - length qs) unused
-      ∙ get_d_replicate (record_limit - length qs) (i - length qs) unused)
+      ∙ get_or-replicate (record_limit - length qs) (i - length qs) unused unused (omega arith))
     where
       is : (i : ℕ) → length qs ≤ i → i ≡ length qs + (i - length qs)
       is i a = omega arith

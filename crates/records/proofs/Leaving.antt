@@ -1,36 +1,31 @@
--- Find and withdraw on an array of records, place by place: where a number stands, the records that are left without
--- it, and the two ways through `edited::withdraw`.
+-- The records that are left after a withdrawal: moved to the front of the used ones, and unused ones behind them.
 -- Assumes nothing.
-use mathlib.Core.Path.{◌≡◌, refl, sym, ap, ap₂, ◌∙◌}
-use mathlib.Core.Bool.{Bool, not, cond}
-use mathlib.Core.List.{List, [], ◌∷◌, ◌++◌, append_assoc, append-nil}
-use Prim.Native.Nat.{ℕ, suc, ◌+◌, ◌-◌, ◌≤◌, ◌<◌, min}
-use native.Mathlib.Numerals.{add-one}
-use native.Mathlib.Omega.{arith}
-use lib.ListN.{length, get_or, take, drop, set, replicate, length-append}
-use lib.Seq.{set_at, take-suc}
-use borrow.Author.Tests.{eq-eqb, ne_eqb}
+use borrow.Rule.Slice.PartMut.{put_mid}
+use Rattle.std.proofs.Common.{◌≡◌, ℕ, suc, ◌+◌, ◌-◌, ◌≤◌, ◌<◌, min, Bool, true, cond, List, [], ◌∷◌, ◌++◌, length, take, drop, set, replicate, refl, sym, ap, ap₂, ◌∙◌, arith, append_assoc, length-append, length-take, length-take-le, take_all, take-take, drop-drop}
+use Rattle.std.specs.List.{filter as std_filter}
+use Rattle.std.proofs.Math.Seq.{take-append-add}
+use Rattle.std.proofs.lemmas.List.{set_at, take-replicate, take-append-le, take_min}
+use Rattle.std.proofs.lemmas.Slice.{drop-append-drop}
 use Rattle.window.specs.declared.query.Query.{Query}
-use Rattle.window.specs.Refusals.{has_number, is_registered}
-use Rattle.window.proofs.Lists.{filter-append}
-use Rattle.registry.specs.declared.find.Found.{Found}
-use Rattle.registry.specs.declared.find.Found.TheVariants.{At, Absent}
-use Rattle.registry.specs.Records.{record_limit, unused, later_by, place_of}
-use Rattle.registry.proofs.Finding.{is_at, registered-at}
-use Rattle.records.specs.declared.edited.Edited.{Edited}
-use Rattle.records.specs.Edited.{same, left_of, withdrawn_from}
-use Rattle.records.specs.LentList.{without, filled_up}
+use Rattle.window.specs.Lists.{filter}
+use Rattle.window.specs.Refusals.{is_registered}
+use Rattle.registry.specs.Records.{record_limit, unused}
+use Rattle.records.specs.LentList.{used_of, without, filled_up, overwritten, withdrawn, withdrawn_count}
+use Rattle.records.proofs.Lists.{array_parts}
+use Rattle.records.proofs.Editing.{filled-length}
 
--- ---- find
+-- the used records are those in the first places, as many as `fitting` counts
+pub used_part : (xs : List Query) (count : ℕ) → take (min (min (length xs) record_limit) count) xs ≡ used_of count xs
+used_part xs count =
+    let e : min count (length (take record_limit xs)) ≡ min (min (length xs) record_limit) count = simp length-take (omega arith) in
+    ap (λ (n : ℕ). take n xs) (sym e) ∙ sym (take-take (min count (length (take record_limit xs))) record_limit xs (omega arith)) ∙ take_min count (take record_limit xs)
 
-module _ (number k : ℕ) (list : List Query) where
-  -- where the number is looked for from place i on
-  abbrev pub place_from : ℕ → Found
-  place_from i = later_by i (place_of number (drop i (take k list)))
+-- std's `filter` keeps the same
+pub filter_std : (p : Query → Bool) (qs : List Query) → std_filter p qs ≡ filter p qs
+filter_std p [] = refl
+filter_std p (q ∷ qs) = ap (λ (rest : List Query). cond (p q) (q ∷ rest) rest) (filter_std p qs)
 
--- ---- the records that are left
-
--- a record set behind these, which are filled up
+-- a record set behind these, which are filled up, joins them
 pub filled-joined : (qs : List Query) (q : Query) → length qs < record_limit → set (filled_up qs) (length qs) q ≡ filled_up (qs ++ (q ∷ []))
 filled-joined qs q l =
     ap (λ (k : ℕ). set (qs ++ replicate k unused) (length qs) q) more
@@ -43,58 +38,52 @@ filled-joined qs q l =
     fewer : record_limit - length (qs ++ (q ∷ [])) ≡ record_limit - (length qs + 1)
     fewer = ap (λ (k : ℕ). record_limit - k) (length-append qs (q ∷ []))
 
--- of the first i records those without the number are kept, `count` of them
-pub record Kept (number : ℕ) (list : List Query) (i count : ℕ) (kept : List Query) : Type 0 where
-  pub few : count ≤ i
-  pub counted : count ≡ length (without number (take i list))
-  pub records : kept ≡ filled_up (without number (take i list))
+-- these records, and behind them unused ones in as many of the first 32 places as the list has
+filled_parts : (qs xs : List Query) (places : ℕ) → places ≡ min (length xs) record_limit → length qs ≤ places → qs ++ (replicate (places - length qs) unused ++ drop places xs) ≡ overwritten (filled_up qs) xs
+filled_parts qs xs places e l =
+    sym (append_assoc qs (replicate (places - length qs) unused) (drop places xs))
+    ∙ ap (λ (front : List Query). front ++ drop places xs) (sym fitting)
+    ∙ ap (λ (n : ℕ). take n (filled_up qs) ++ drop n xs) capped
+    ∙ sym (array_parts record_limit (filled_up qs) xs whole)
+    ∙ ap (λ (ys : List Query). overwritten ys xs) (take_all record_limit (filled_up qs) (omega (arith, whole)))
+  where
+    at : places ≡ length qs + (places - length qs)
+    at = omega arith
 
-module _ (number : ℕ) (list : List Query) (i count : ℕ) (kept : List Query) (h : Kept number list i count kept) (c : i < record_limit) (w : i < length list) where
-  abbrev stays : Query → Bool
-  stays q = not (has_number number q)
+    fitting : take places (filled_up qs) ≡ qs ++ replicate (places - length qs) unused
+    fitting =
+        ap (λ (n : ℕ). take n (filled_up qs)) at
+        ∙ take-append-add qs (replicate (record_limit - length qs) unused) (places - length qs)
+        ∙ ap (λ (rest : List Query). qs ++ rest) (take-replicate (places - length qs) (record_limit - length qs) unused (omega arith))
 
-  -- with one record more looked at
-  looked : without number (take (i + 1) list) ≡ without number (take i list) ++ cond (stays (get_or list i unused)) (get_or list i unused ∷ []) []
-  looked =
-      ap (without number) (ap (λ (k : ℕ). take k list) (add-one i) ∙ take-suc list i unused w)
-      ∙ filter-append stays (take i list) (get_or list i unused ∷ [])
+    capped : places ≡ min (min (length xs) record_limit) record_limit
+    capped = omega arith
 
-  -- it stays
-  pub kept_more : (count' : ℕ) (kept' : List Query) → (number ≡ (get_or list i unused).number → ⊥) → count' ≡ count + 1 → kept' ≡ set kept count (get_or list i unused)
-      → Kept number list (i + 1) count' kept'
-  kept_more count' kept' n e f =
-      let now : without number (take (i + 1) list) ≡ without number (take i list) ++ (get_or list i unused ∷ []) =
-      rw (ne_eqb number (get_or list i unused).number n) at looked in
-      record {
-        few = omega (arith, h.few);
-        counted = e ∙ ap (λ (k : ℕ). k + 1) h.counted ∙ sym (ap length now ∙ length-append (without number (take i list)) (get_or list i unused ∷ []));
-        records =
-            f ∙ ap₂ (λ (qs : List Query) (k : ℕ). set qs k (get_or list i unused)) h.records h.counted
-            ∙ filled-joined (without number (take i list)) (get_or list i unused) (omega (arith, h.few, h.counted))
-            ∙ ap filled_up (sym now);
-      }
+    whole : length (filled_up qs) ≡ record_limit
+    whole = filled-length qs (omega arith)
 
-  -- it leaves
-  pub kept_less : (count' : ℕ) (kept' : List Query) → number ≡ (get_or list i unused).number → count' ≡ count → kept' ≡ kept → Kept number list (i + 1) count' kept'
-  kept_less count' kept' n e f =
-      let now : without number (take (i + 1) list) ≡ without number (take i list) =
-      rw (eq-eqb number (get_or list i unused).number n) at looked ∙ append-nil (without number (take i list)) in
-      record {
-        few = omega (arith, h.few);
-        counted = e ∙ h.counted ∙ ap length (sym now);
-        records = f ∙ h.records ∙ ap filled_up (sym now);
-      }
+module _ (number count : ℕ) (xs : List Query) (there : is_registered number (used_of count xs) ≡ true) (used places kept : ℕ) (u : used ≡ min (min (length xs) record_limit) count) (p : places ≡ min (length xs) record_limit) where
+  -- ys are the used records, of which those that are left, kept in number, have moved to the front. With unused records
+  -- behind these, up to the 32nd, the list is as after a withdrawal
+  pub withdrawn_parts : (ys : List Query) → length ys ≡ length (take used xs) → kept ≤ length (take used xs) → take kept ys ≡ without number (take used xs)
+      → (kept ≡ withdrawn_count number count xs) × (put_mid kept (places - kept) (ys ++ drop used xs) (replicate (places - kept) unused) ≡ withdrawn number count xs)
+  withdrawn_parts ys l f r =
+      rw there (sym size, ap₂ ◌++◌ front (ap₂ ◌++◌ (ap (λ (n : ℕ). replicate (places - n) unused) (sym size)) behind) ∙ filled_parts left xs places p (omega (arith, size, length-take {A = Query})))
+    where
+      left : List Query
+      left = without number (used_of count xs)
 
--- ---- the two ways through `edited::withdraw`
+      is : take kept ys ≡ left
+      is = r ∙ ap (without number) (ap (λ (n : ℕ). take n xs) u ∙ used_part xs count)
 
-module _ (list : List Query) (places count number k : ℕ) (e : k ≡ min (min places record_limit) count) (f : Found) (h : f ≡ place_of number (take k list)) where
-  registered_is : is_registered number (take k list) ≡ is_at f
-  registered_is = registered-at number (take k list) ∙ ap is_at (sym h)
+      size : length left ≡ kept
+      size = ap length (sym is) ∙ length-take-le kept ys (omega arith)
 
-  -- no used record has the number
-  pub stayed_same : f ≡ Absent → (o : Edited) → o ≡ same list count → o ≡ withdrawn_from list places count number
-  stayed_same a o s = s ∙ sym (rw (← e, registered_is, a))
+      front : take kept (ys ++ drop used xs) ≡ left
+      front = take-append-le kept ys (drop used xs) (omega arith) ∙ is
 
-  -- one has
-  pub left_over : (i : ℕ) → f ≡ At i → (o : Edited) → o ≡ left_of (without number (take k list)) → o ≡ withdrawn_from list places count number
-  left_over i a o s = s ∙ sym (rw (← e, registered_is, a))
+      behind : drop (places - kept) (drop kept (ys ++ drop used xs)) ≡ drop places xs
+      behind =
+          let e : kept + (places - kept) ≡ places = omega (arith, length-take {A = Query}) in
+          drop-drop (places - kept) kept (ys ++ drop used xs) ∙ ap (λ (n : ℕ). drop n (ys ++ drop used xs)) e
+          ∙ drop-append-drop used xs ys places (omega arith) (omega (arith, length-take {A = Query}))

@@ -1,5 +1,5 @@
--- A call of a function over plain values, inside a proof that goes through a function's code statement by statement: one
--- step. It says nothing of the crate, and no proof of the crate needs it today.
+-- A call of a function over plain values, inside a proof that goes through a function's code statement by statement:
+-- one step. It says nothing of the crate, and no proof of the crate needs it today.
 --     calls_plain      nothing that the caller has is needed by the callee, and all that is had from it is what its
 --     result is and a fact of it.        The result's machine value is written out (`only (vals r)`)
 --     plain_post       the callee's `post`, at a signature with no lifetime, gives that, from what its `ensured` says

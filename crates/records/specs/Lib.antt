@@ -1,3 +1,2 @@
 pub mod LentList
-pub mod Edited
 pub mod Laid

@@ -9,32 +9,30 @@ use registry::list::{LIST_PLACES, RECORDS, put_query};
 use window::query::Query;
 
 // All 32 records are put into the numbers.
-fn write_all(numbers: &mut [u32], list: [Query; 32])
+#[tactic(auto, unfolding(crate::specs::Laid::written))]
+fn write_all(numbers: &mut [u32], list: [Query; RECORDS])
     requires { list_places ≤ length numbers.old }
     ensures { numbers.new ≡ written record_limit list numbers.old }
 {
-    let mut i = 0;
-    while i < RECORDS {
-        let q = list[i];
-        put_query(numbers, i, q);
-        i += 1;
+    for (i, q) in list.iter().enumerate() {
+        put_query(numbers, i, *q);
     }
 }
 
 // The places of the first k records are put in order, one after the other.
+#[tactic(auto, unfolding(crate::specs::Laid::placed))]
 fn place_all(numbers: &mut [u32], k: usize)
     requires { (list_places ≤ length numbers.old) × (k ≤ record_limit) }
     ensures { numbers.new ≡ placed k numbers.old }
 {
-    let mut i = 0;
-    while i < k {
+    for i in 0..k {
         insert(numbers, i);
-        i += 1;
     }
 }
 
 // The records of a list of which the first `count` are used, as numbers.
-pub fn laid(list: [Query; 32], count: usize) -> [u32; LIST_PLACES]
+#[tactic(auto, unfolding(crate::specs::Laid::laid))]
+pub fn laid(list: [Query; RECORDS], count: usize) -> [u32; LIST_PLACES]
     ensures { result ≡ laid count list }
 {
     let mut numbers = [0; LIST_PLACES];

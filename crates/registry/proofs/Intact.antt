@@ -1,7 +1,7 @@
 -- What holds of a list of queries that passes check 2, how many records are used, and what the check comes to: the laws
 -- that the calls lean on.
 -- Assumes nothing.
-use Rattle.std.proofs.Common.{◌≡◌, ℕ, ◌≤◌, Bool, true, false, not, ◌&&◌, ◌||◌, ltb, leb, List, [], ◌∷◌, length, sym, refl, ap, ◌∙◌, ltb-false, le-ltb, le-leb, leb-true}
+use Rattle.std.proofs.Common.{◌≡◌, ℕ, ◌+◌, ◌<◌, ◌≤◌, Bool, true, false, not, ◌&&◌, ◌||◌, ltb, leb, List, [], ◌∷◌, length, sym, refl, ap, ◌∙◌, subst, arith, ltb-false, le-ltb, le-leb, leb-true}
 use borrow.Author.Tests.{not-true}
 use Rattle.window.specs.declared.query.Query.{Query}
 use Rattle.window.specs.Lists.{any, Each}
@@ -10,7 +10,7 @@ use Rattle.window.specs.Refusals.{applying, field_checks, broken_record, shared_
 use Rattle.window.proofs.Lists.{and_left, and_right, not_left, not_right}
 use Rattle.window.proofs.Refusals.{any_passed, fields_passed}
 use Rattle.registry.specs.Records.{record_limit, record_at, used, ordered, list_fits}
-use Rattle.registry.proofs.Tabulating.{length-tabulate}
+use Rattle.registry.proofs.Tabulating.{length-tabulate, tabulated_at}
 
 -- ---- the count of the used records
 
@@ -57,6 +57,13 @@ module _ (n k : ℕ) (l : List ℕ) where
     -- the fields of its used records are within their limits
     pub fits-limits : Each Limits (used k l)
     fits-limits = sound_each Limits n (sound_limits n) (used k l) fits_sound
+
+    -- so are those of each
+    pub fits_limits_at : (i : ℕ) → i < k → Limits (record_at l i)
+    fits_limits_at i inside = subst (λ (j : ℕ). Limits (record_at l j)) is (tabulated_at Limits (record_at l) 0 k i inside fits-limits)
+      where
+        is : 0 + i ≡ i
+        is = omega arith
 
     -- its used records were registered at n or before
     pub fits_origins : Each (λ (q : Query). q.origin ≤ n) (used k l)

@@ -107,10 +107,10 @@ module _ (k : ℕ) (q : Query) (l : List ℕ) (c : k < record_limit) (w : list_p
       }
 
 -- a place that is put where its number's rank says is inserted
-pub inserted-at : (k r : ℕ) (l l' : List ℕ) → r ≡ rank (number_at l k) l (order k l) → l' ≡ take order_at l ++ with_place_at k r (order k l) ++ drop (order_at + suc k) l
+pub inserted_at : (k r : ℕ) (l l' : List ℕ) → r ≡ rank (number_at l k) l (order k l) → l' ≡ take order_at l ++ with_place_at k r (order k l) ++ drop (order_at + suc k) l
     → l' ≡ inserted k l
 unfolding inserted
-inserted-at k r l l' e f = f ∙ ap (λ (n : ℕ). take order_at l ++ with_place_at k n (order k l) ++ drop (order_at + suc k) l) e
+inserted_at k r l l' e f = f ∙ ap (λ (n : ℕ). take order_at l ++ with_place_at k n (order k l) ++ drop (order_at + suc k) l) e
 
 -- what `insert` asks of the list with the record alone
 pub written_ready : (k : ℕ) (q : Query) (l m : List ℕ) → k < record_limit → list_places ≤ length l → PlacesIn k l → m ≡ with_record k q l

@@ -8,6 +8,21 @@ use Rattle.window.specs.declared.query.Query.{Query}
 use Rattle.registry.specs.Records.{record_limit, query_numbers, order_at, list_places, number_at, record_at, used, with_record, order, unused, Tidy, ListKept}
 use Rattle.registry.proofs.Tabulating.{tabulate_cong, tabulate-same, same_tabulated, part_tabulate}
 
+-- ---- records by their numbers
+
+-- the five numbers of a record at i in l' and at h in l are the same
+pub records_alike : (h i : ℕ) (l l' : List ℕ) → ((j : ℕ) → j < query_numbers → get_or l' (query_numbers * i + j) 0 ≡ get_or l (query_numbers * h + j) 0) → record_at l' i ≡ record_at l h
+records_alike h i l l' e =
+    let first : number_at l' i ≡ number_at l h = ap (λ (n : ℕ). get_or l' n 0) (here i) ∙ e 0 (omega arith) ∙ ap (λ (n : ℕ). get_or l n 0) (sym (here h)) in
+    let kind : get_or l' (query_numbers * i + 1) 0 ≡ get_or l (query_numbers * h + 1) 0 = e 1 (omega arith) in
+    let range : get_or l' (query_numbers * i + 2) 0 ≡ get_or l (query_numbers * h + 2) 0 = e 2 (omega arith) in
+    let slide : get_or l' (query_numbers * i + 3) 0 ≡ get_or l (query_numbers * h + 3) 0 = e 3 (omega arith) in
+    let origin : get_or l' (query_numbers * i + 4) 0 ≡ get_or l (query_numbers * h + 4) 0 = e 4 (omega arith) in
+    cc
+  where
+    here : (n : ℕ) → query_numbers * n ≡ query_numbers * n + 0
+    here n = omega arith
+
 -- ---- five stores
 
 -- a number at another place than those of five stores is as it was
@@ -42,17 +57,8 @@ record-at i q l j = five_other l (query_numbers * i) (query_numbers * i + 1) (qu
 -- the other records are as they were
 pub record-other : (i : ℕ) (q : Query) (l : List ℕ) (j : ℕ) → i < record_limit → j < record_limit → j ≢ i → record_at (with_record i q l) j ≡ record_at l j
 record-other i q l j h m n =
-    let number : number_at (with_record i q l) j ≡ number_at l j =
-    record-at i q l (query_numbers * j) (λ e. n (omega arith)) (λ e. omega arith) (λ e. omega arith) (λ e. omega arith) (λ e. omega arith) in
-    let kind : get_or (with_record i q l) (query_numbers * j + 1) 0 ≡ get_or l (query_numbers * j + 1) 0 =
-    record-at i q l (query_numbers * j + 1) (λ e. omega arith) (λ e. n (omega arith)) (λ e. omega arith) (λ e. omega arith) (λ e. omega arith) in
-    let range : get_or (with_record i q l) (query_numbers * j + 2) 0 ≡ get_or l (query_numbers * j + 2) 0 =
-    record-at i q l (query_numbers * j + 2) (λ e. omega arith) (λ e. omega arith) (λ e. n (omega arith)) (λ e. omega arith) (λ e. omega arith) in
-    let slide : get_or (with_record i q l) (query_numbers * j + 3) 0 ≡ get_or l (query_numbers * j + 3) 0 =
-    record-at i q l (query_numbers * j + 3) (λ e. omega arith) (λ e. omega arith) (λ e. omega arith) (λ e. n (omega arith)) (λ e. omega arith) in
-    let origin : get_or (with_record i q l) (query_numbers * j + 4) 0 ≡ get_or l (query_numbers * j + 4) 0 =
-    record-at i q l (query_numbers * j + 4) (λ e. omega arith) (λ e. omega arith) (λ e. omega arith) (λ e. omega arith) (λ e. n (omega arith)) in
-    cc
+    records_alike j j l (with_record i q l)
+    (λ p b. record-at i q l (query_numbers * j + p) (λ e. n (omega arith)) (λ e. n (omega arith)) (λ e. n (omega arith)) (λ e. n (omega arith)) (λ e. n (omega arith)))
 
 -- the record is the one that was written
 pub record_same : (i : ℕ) (q : Query) (l : List ℕ) → i < record_limit → list_places ≤ length l → record_at (with_record i q l) i ≡ q
@@ -111,13 +117,7 @@ module _ (m : ℕ) (ws l : List ℕ) (sized : length ws ≡ m) (room : order_at 
 
   -- so is every record
   pub with_order_record : (j : ℕ) → j < record_limit → record_at (with_order m ws l) j ≡ record_at l j
-  with_order_record j h =
-      let number : number_at (with_order m ws l) j ≡ number_at l j = with_order-before (query_numbers * j) (omega arith) in
-      let kind : get_or (with_order m ws l) (query_numbers * j + 1) 0 ≡ get_or l (query_numbers * j + 1) 0 = with_order-before (query_numbers * j + 1) (omega arith) in
-      let range : get_or (with_order m ws l) (query_numbers * j + 2) 0 ≡ get_or l (query_numbers * j + 2) 0 = with_order-before (query_numbers * j + 2) (omega arith) in
-      let slide : get_or (with_order m ws l) (query_numbers * j + 3) 0 ≡ get_or l (query_numbers * j + 3) 0 = with_order-before (query_numbers * j + 3) (omega arith) in
-      let origin : get_or (with_order m ws l) (query_numbers * j + 4) 0 ≡ get_or l (query_numbers * j + 4) 0 = with_order-before (query_numbers * j + 4) (omega arith) in
-      cc
+  with_order_record j h = records_alike j j l (with_order m ws l) (λ p b. with_order-before (query_numbers * j + p) (omega arith))
 
   -- the first m places are those put
   pub with_order-order : order m (with_order m ws l) ≡ ws

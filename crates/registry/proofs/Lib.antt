@@ -11,3 +11,4 @@ pub mod Passing
 pub mod Shifting
 pub mod Clearing
 pub mod Joining
+pub mod Places

@@ -1,7 +1,7 @@
 -- The laws of check 2 on the fields of many records at once: an or is below a power of 2 exactly where both numbers
 -- are, and x less 1 is exactly where x is 1 to that power.
 -- Assumes nothing.
-use Rattle.std.proofs.Common.{◌≡◌, ℕ, ◌+◌, ◌%◌, ◌^◌, ◌<◌, ◌≤◌, Bool, true, false, not, ◌&&◌, ◌||◌, ltb, leb, refl, ap, ◌∙◌, ap₂, arith, le-leb, leb-false, leb-true}
+use Rattle.std.proofs.Common.{◌≡◌, ℕ, ◌+◌, ◌-◌, ◌%◌, ◌^◌, ◌<◌, ◌≤◌, Bool, true, false, not, ◌&&◌, ◌||◌, ltb, leb, refl, ap, ◌∙◌, ap₂, arith, le-leb, leb-false, leb-true}
 use lib.Bits.{bit_or, or_lt, or_add_and, and_le_l, and_le_r}
 use borrow.Author.Tests.{lt-leb}
 use Rattle.window.specs.declared.query.Query.{Query}
@@ -42,14 +42,16 @@ less_one_reaches p x r h e f = go (leb 1 x) refl (leb x p) refl
     go true g false i = le-leb p r (omega (arith, leb-true 1 x g, leb-false x p i))
 
 -- the bits with those of x less 1
-pub field_joined : (b x y : ℕ) → (y + 1) % 2 ^ 32 ≡ x → y < 2 ^ 32 → FieldJoined b x (bit_or b y)
-field_joined b x y e h m l = or_reaches m b y ∙ ap (λ (t : Bool). leb (2 ^ m) b || t) (less_one_reaches (2 ^ m) x y l e h)
+pub field_joined : (b x : ℕ) → x < 2 ^ 32 → FieldJoined b x (bit_or b ((x + (2 ^ 32 - 1)) % 2 ^ 32))
+field_joined b x e m l =
+    let r : ℕ = (x + (2 ^ 32 - 1)) % 2 ^ 32 in
+    or_reaches m b r ∙ ap (λ (t : Bool). leb (2 ^ m) b || t) (less_one_reaches (2 ^ m) x r l (omega arith) (omega arith))
 
 -- the same of the four fields of a record
-pub record-joined : (b r : Bits) (q : Query) → FieldJoined b.number q.number r.number → FieldJoined b.kind q.kind r.kind
+pub record_joined : (b r : Bits) (q : Query) → FieldJoined b.number q.number r.number → FieldJoined b.kind q.kind r.kind
     → FieldJoined b.range q.range r.range → FieldJoined b.slide q.slide r.slide → bits_outside r ≡ (bits_outside b || fields_outside q)
 unfolding bits_outside fields_outside
-record-joined b r q number kind range slide =
+record_joined b r q number kind range slide =
     ap₂ ◌||◌ (number 16 (omega arith)) (ap₂ ◌||◌ (kind 2 (omega arith)) (ap₂ ◌||◌ (range 12 (omega arith)) (slide 12 (omega arith))))
     ∙ four (ltb number_limit b.number) (leb kind_limit b.kind) (leb length_limit b.range) (leb length_limit b.slide)
     (not (within 1 (number_limit + 1) q.number)) (not (within 1 kind_limit q.kind)) (not (within 1 length_limit q.range)) (not (within 1 length_limit q.slide))

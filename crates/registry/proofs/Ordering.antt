@@ -1,8 +1,9 @@
 -- The laws of the places by ascending number: how far a search along them is, what they are with one more, that they
 -- stay in order, and that no number is shared along them.
 -- Assumes nothing.
-use Rattle.std.proofs.Common.{◌≡◌, ℕ, suc, ◌+◌, ◌<◌, ◌≤◌, Bool, true, false, cond, ◌&&◌, ◌||◌, eqb, ltb, List, [], ◌∷◌, ◌++◌, length, get_or, take, drop, sym, refl, ap, ◌∙◌, subst, add-one, arith, length-append, length-drop, take-append-drop, length-take-le, get_or-drop, drop-cons, get_or-take, ltb-false, ltb-true, le-ltb, lt-ltb, eq-eqb, ne_eqb, eqb-true}
+use Rattle.std.proofs.Common.{◌≡◌, ℕ, zero, suc, ◌+◌, ◌<◌, ◌≤◌, Bool, true, false, cond, ◌&&◌, ◌||◌, eqb, ltb, List, [], ◌∷◌, ◌++◌, length, get_or, take, drop, sym, refl, ap, ◌∙◌, subst, add-one, arith, length-append, length-drop, take-append-drop, length-take-le, get_or-drop, drop-cons, get_or-take, ltb-false, ltb-true, lt-ltb, eq-eqb, ne_eqb, eqb-true}
 use borrow.Author.Tests.{eqb-false}
+use Rattle.std.specs.List.{prefix_len}
 use Rattle.window.specs.declared.query.Query.{Query}
 use Rattle.window.specs.Lists.{Each}
 use Rattle.window.specs.Refusals.{has_number, is_registered, shared_number}
@@ -23,21 +24,18 @@ place-next k l j c w h =
     drop-cons (order k l) j 0 (rw (order-length k l c w) h)
     ∙ rw (get_or-take k (drop order_at l) j 0 h, get_or-drop order_at l j 0, add-one j)
 
--- the one at j is that of a used record
-pub place_in : (k : ℕ) (l : List ℕ) (j : ℕ) → k ≤ record_limit → list_places ≤ length l → j < k → PlacesIn k l → get_or l (order_at + j) 0 < k
-place_in k l j c w h p = (subst (Each (λ (i : ℕ). i < k)) (place-next k l j c w h) (each_drop (λ (i : ℕ). i < k) j (order k l) p)).0
+-- each is that of a used record
+pub place_at : (k j p : ℕ) (ps : List ℕ) → j < length ps → p ≡ get_or ps j p → Each (λ (i : ℕ). i < k) ps → p < k
+place_at k j p [] h e is = absurd (omega arith)
+place_at k zero p (i ∷ ps) h e is = omega (arith, is.0)
+place_at k (suc j) p (i ∷ ps) h e is = place_at k j p ps (omega arith) e is.1
 
 -- ---- the search for a number's rank
 
--- the first number that is not less ends it
-pub rank_found : (number k : ℕ) (l : List ℕ) (j : ℕ) → k ≤ record_limit → list_places ≤ length l → j < k → number ≤ number_at l (get_or l (order_at + j) 0)
-    → j + rank number l (drop j (order k l)) ≡ j
-rank_found number k l j c w h e = rw (place-next k l j c w h, le-ltb (number_at l (get_or l (order_at + j) 0)) number e) (omega arith)
-
--- one that is less is passed
-pub rank-next : (number k : ℕ) (l : List ℕ) (j : ℕ) → k ≤ record_limit → list_places ≤ length l → j < k → number_at l (get_or l (order_at + j) 0) < number
-    → j + rank number l (drop j (order k l)) ≡ j + 1 + rank number l (drop (j + 1) (order k l))
-rank-next number k l j c w h e = rw (place-next k l j c w h, lt-ltb (number_at l (get_or l (order_at + j) 0)) number e) (omega arith)
+-- it is how many numbers are less from the first on
+pub rank_counts : (number : ℕ) (l ps : List ℕ) → rank number l ps ≡ prefix_len (λ (p : ℕ). ltb (number_at l p) number) ps
+rank_counts number l [] = refl
+rank_counts number l (p ∷ ps) = ap (λ (n : ℕ). cond (ltb (number_at l p) number) n 0) (omega (arith, rank_counts number l ps))
 
 -- ---- one place more
 

@@ -1,6 +1,6 @@
 -- Check 2 on the list in one pass: along the places by ascending number, and beside it along the records.
 -- Assumes nothing.
-use Rattle.std.proofs.Common.{◌≡◌, ℕ, ◌+◌, ◌<◌, ◌≤◌, Bool, true, false, not, ◌&&◌, ◌||◌, ltb, leb, List, [], ◌∷◌, length, get_or, drop, sym, refl, ap, ◌∙◌, ap₂, arith, length-drop, drop_of_length-le, length-take, le-ltb, lt-ltb, le-leb, leb-false, leb-true}
+use Rattle.std.proofs.Common.{◌≡◌, ℕ, ◌+◌, ◌<◌, ◌≤◌, Bool, true, false, not, ◌&&◌, ◌||◌, ltb, leb, List, [], ◌∷◌, length, get_or, drop, sym, refl, ap, ◌∙◌, subst, ap₂, arith, length-drop, drop_of_length-le, length-take, le-ltb, lt-ltb, le-leb, leb-false, leb-true}
 use Rattle.window.specs.declared.query.Query.{Query}
 use Rattle.window.specs.Lists.{any}
 use Rattle.window.specs.Queries.{number_limit, kind_limit, length_limit}
@@ -73,20 +73,18 @@ pub record Passing (n k : ℕ) (l : List ℕ) (last : ℕ) (bits : Bits) (j : �
   pub fields : (bits_outside bits || any fields_outside (drop j (used k l))) ≡ any fields_outside (used k l)
   pub origins : any (is_later n) (drop j (used k l)) ≡ any (is_later n) (used k l)
 
-pub passing_start : (n k : ℕ) (l : List ℕ) → Passing n k l 0 (record { number = 0; kind = 0; range = 0; slide = 0 }) 0
+pub passing_start : (n k : ℕ) (l : List ℕ) (bits : Bits) → (bits.number ≡ 0) × ((bits.kind ≡ 0) × ((bits.range ≡ 0) × (bits.slide ≡ 0))) → Passing n k l 0 bits 0
 unfolding ordered bits_outside
-passing_start n k l = record { looked = omega arith; climb = refl; greatest = refl; fields = refl; origins = refl }
+passing_start n k l bits none =
+    record { looked = omega arith; climb = refl; greatest = refl; fields = rw (none.0, none.1.0, none.1.1.0, none.1.1.1); origins = refl }
 
 module _ (n k : ℕ) (l : List ℕ) (last : ℕ) (bits : Bits) (j : ℕ) (h : Passing n k l last bits j) (long : list_places ≤ length l) (few : k ≤ record_limit) where
   -- ---- a turn
 
   module _ (inside : j < k) where
-    -- the place that is looked at, and the number there
+    -- the place that is looked at
     abbrev place : ℕ
     place = get_or l (order_at + j) 0
-
-    abbrev number : ℕ
-    number = number_at l place
 
     -- what is left are this place and those behind it
     left : drop j (order k l) ≡ place ∷ drop (j + 1) (order k l)
@@ -96,12 +94,16 @@ module _ (n k : ℕ) (l : List ℕ) (last : ℕ) (bits : Bits) (j : ℕ) (h : Pa
     pub passing_outside : k ≤ place → false ≡ list_fits n k l
     passing_outside o = fits_unordered n k l few (sym h.climb ∙ ap (climbs k last l) left ∙ rw (le-ltb place k o))
 
-    module _ (placed : place < k) where
-      -- the number there is not above the last one
-      pub passing_falls : number ≤ last → false ≡ list_fits n k l
-      passing_falls f = fits_unordered n k l few (sym h.climb ∙ ap (climbs k last l) left ∙ rw (lt-ltb place k placed, le-ltb last number f))
+    -- it is that of p
+    module _ (placed : place < k) (p : Query) (there : p ≡ record_at l place) where
+      number_is : p.number ≡ number_at l place
+      number_is = ap (λ (r : Query). r.number) there
 
-      module _ (rises : last < number) (q : Query) (read : q ≡ record_at l j) where
+      -- whose number is not above the last one
+      pub passing_falls : p.number ≤ last → false ≡ list_fits n k l
+      passing_falls f = fits_unordered n k l few (sym h.climb ∙ ap (climbs k last l) left ∙ rw (lt-ltb place k placed, le-ltb last (number_at l place) (rw number_is at f)))
+
+      module _ (rises : last < p.number) (q : Query) (read : q ≡ record_at l j) where
         -- the record at j was registered after n
         pub passing_later : n < q.origin → false ≡ list_fits n k l
         passing_later o =
@@ -110,11 +112,12 @@ module _ (n k : ℕ) (l : List ℕ) (last : ℕ) (bits : Bits) (j : ℕ) (h : Pa
             (any-broken n (used k l) ∙ or_right (any fields_outside (used k l)) (any (is_above number_limit) (used k l) || any (is_later n) (used k l)) (or_right (any (is_above number_limit) (used k l)) (any (is_later n) (used k l)) later))
 
         -- neither
-        pub passing_next : q.origin ≤ n → (next : Bits) → bits_outside next ≡ (bits_outside bits || fields_outside q) → Passing n k l number next (j + 1)
+        pub passing_next : q.origin ≤ n → (next : Bits) → bits_outside next ≡ (bits_outside bits || fields_outside q) → Passing n k l p.number next (j + 1)
         passing_next o next e =
-            let climb : climbs k last l (drop j (order k l)) ≡ climbs k number l (drop (j + 1) (order k l)) = ap (climbs k last l) left ∙ rw (lt-ltb place k placed, lt-ltb last number rises) in
+            let climb : climbs k last l (drop j (order k l)) ≡ climbs k (number_at l place) l (drop (j + 1) (order k l)) = ap (climbs k last l) left ∙ rw (lt-ltb place k placed, lt-ltb last (number_at l place) (rw number_is at rises)) in
             let origin : is_later n (record_at l j) ≡ false = le-ltb n (record_at l j).origin (rw read at o) in
-            record {
+            subst (λ (m : ℕ). Passing n k l m next (j + 1)) (sym number_is)
+            (record {
               looked = omega arith;
               climb = sym climb ∙ h.climb;
               greatest = sym (ap (last_number last l) left) ∙ h.greatest;
@@ -122,7 +125,7 @@ module _ (n k : ℕ) (l : List ℕ) (last : ℕ) (bits : Bits) (j : ℕ) (h : Pa
                   (any_cons k l j inside fields_outside) (e ∙ ap (λ (r : Query). bits_outside bits || fields_outside r) read))
                   ∙ h.fields;
               origins = sym (any_next k l j inside (is_later n) origin) ∙ h.origins;
-            }
+            })
 
   -- ---- the end
 

@@ -1,13 +1,12 @@
 -- The laws of a scan over the used records, place by place: what is left from place i on is the record at i and what is
--- left after it, and so for each test, count and least start that is taken over them.
+-- left after it, and so for each test that is taken over them.
 -- Assumes nothing.
-use Rattle.std.proofs.Common.{◌≡◌, ℕ, ◌+◌, ◌-◌, ◌<◌, ◌≤◌, min, Bool, true, false, ◌||◌, List, [], ◌∷◌, length, drop, sym, refl, ap, ◌∙◌, subst, arith}
+use Rattle.std.proofs.Common.{◌≡◌, ℕ, ◌+◌, ◌-◌, ◌<◌, ◌≤◌, Bool, true, false, ◌||◌, List, [], ◌∷◌, length, drop, sym, refl, ap, ◌∙◌, subst, arith}
 use Rattle.window.specs.declared.query.Query.{Query}
 use Rattle.window.specs.Lists.{filter, any, Each}
-use Rattle.window.specs.Queries.{due, window_start, horizon}
+use Rattle.window.specs.Queries.{due}
 use Rattle.window.specs.Refusals.{due_at}
-use Rattle.window.proofs.Lists.{each_drop, length-filter}
-use Rattle.window.proofs.Queries.{horizon_cons}
+use Rattle.window.proofs.Lists.{length-filter}
 use Rattle.registry.specs.Records.{tabulate, record_at, used}
 use Rattle.registry.proofs.Tabulating.{drop-tabulate, tabulate-next, tabulate-ended, tabulated_at}
 use Rattle.registry.proofs.Intact.{used-count}
@@ -81,40 +80,8 @@ pub found_last : (found whole : Bool) → whole ≡ false → (found || whole) �
 found_last true whole e = refl
 found_last false whole e = e
 
--- ---- counts
-
-module _ (k : ℕ) (l : List ℕ) (i : ℕ) (p : Query → Bool) (c m : ℕ) (e : c + length (filter p (drop i (used k l))) ≡ m) where
-  -- with c counted, a record that passes is one more
-  pub count_passed : i < k → p (record_at l i) ≡ true → (next : ℕ) → next ≡ c + 1 → next + length (filter p (drop (i + 1) (used k l))) ≡ m
-  count_passed inside h next f = omega (arith, ap length (filter_passed k l i inside p h))
-
-  -- and one that fails is none
-  pub count-failed : i < k → p (record_at l i) ≡ false → (next : ℕ) → next ≡ c → next + length (filter p (drop (i + 1) (used k l))) ≡ m
-  count-failed inside h next f = omega (arith, ap length (filter-failed k l i inside p h))
-
-  -- at the end all are counted
-  pub count-all : k ≤ i → c ≡ m
-  count-all ended = omega (arith, ap length (filter-ended k l i ended p))
+-- ---- a count
 
 -- no more are due than there are
-pub due-few : (n k : ℕ) (l : List ℕ) → length (due_at n (used k l)) ≤ k
-due-few n k l = omega (arith, length-filter (due n) (used k l), used-count k l)
-
--- ---- the horizon
-
-module _ (n k : ℕ) (l : List ℕ) (i : ℕ) where
-  module _ (inside : i < k) (h : Each (λ (q : Query). q.origin ≤ n) (used k l)) where
-    -- the horizon of what is left, by the window start of the query at i
-    horizon_rest : horizon n (drop i (used k l)) ≡ min (window_start n (record_at l i)) (horizon n (drop (i + 1) (used k l)))
-    horizon_rest =
-        let cons = rest_cons k l i inside in
-        ap (horizon n) cons ∙ horizon_cons n (record_at l i) (drop (i + 1) (used k l)) (subst (Each (λ (q : Query). q.origin ≤ n)) cons (each_drop (λ (q : Query). q.origin ≤ n) i (used k l) h))
-
-    -- one place on it is the same, with the start of the window at i among those so far
-    pub least_next : (least from next m : ℕ) → from ≡ window_start n (record_at l i) → min least (horizon n (drop i (used k l))) ≡ m → next ≡ min least from
-        → min next (horizon n (drop (i + 1) (used k l))) ≡ m
-    least_next least from next m e f g = omega (arith, horizon_rest)
-
-  -- at the end it is the least start
-  pub least_last : (least : ℕ) → k ≤ i → least ≤ n → min least (horizon n (drop i (used k l))) ≡ least
-  least_last least ended few = ap (λ (qs : List Query). min least (horizon n qs)) (rest_ended k l i ended) ∙ omega arith
+pub due_few : (n k : ℕ) (l : List ℕ) → length (due_at n (used k l)) ≤ k
+due_few n k l = omega (arith, length-filter (due n) (used k l), used-count k l)

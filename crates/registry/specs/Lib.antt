@@ -1,3 +1,4 @@
 pub mod Records
 pub mod Edits
 pub mod Fields
+pub mod Held

@@ -1,13 +1,11 @@
 -- The list of registered queries, as numbers that are lent: 32 records of five numbers (number, kind, range, slide,
 -- registration point), of which the first ones are used, and the places of the used ones by ascending number.
 -- Assumes nothing.
-use Rattle.std.specs.Prelude.{◌≡◌, ℕ, zero, suc, ◌+◌, ◌-◌, ◌*◌, Bool, true, cond, not, ◌&&◌, List, [], ◌∷◌, ◌++◌, length, take, drop, replicate, nat_le, nat_lt, slice_index, slice_set}
+use Rattle.std.specs.Prelude.{◌≡◌, ℕ, zero, suc, ◌+◌, ◌-◌, ◌*◌, Bool, true, cond, not, ◌&&◌, List, [], ◌∷◌, ◌++◌, length, take, drop, replicate, nat_le, nat_lt, slice_index, slice_set, Option, position}
 use Rattle.window.specs.declared.query.Query.{Query}
 use Rattle.window.specs.Lists.{any}
 use Rattle.window.specs.Queries.{query_limit}
 use Rattle.window.specs.Refusals.{has_number, broken_record}
-use Rattle.registry.specs.declared.find.Found.{Found}
-use Rattle.registry.specs.declared.find.Found.TheVariants.{At, Absent}
 
 -- ---- where things stand
 
@@ -108,12 +106,6 @@ pub record ListKept (l l' : List ℕ) : Type 0 where
 
 -- ---- the place of a query
 
--- so many places later
-abbrev pub later_by : ℕ → Found → Found
-later_by k (At i) = At (k + i)
-later_by k Absent = Absent
-
--- where the first query with this number stands
-abbrev pub place_of : ℕ → List Query → Found
-place_of number [] = Absent
-place_of number (q ∷ qs) = cond (has_number number q) (At 0) (later_by 1 (place_of number qs))
+-- where the first query with this number stands, from 0
+abbrev pub place_of : ℕ → List Query → Option ℕ
+place_of number qs = position (has_number number) qs

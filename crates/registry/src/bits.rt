@@ -8,7 +8,7 @@ use window::query::{KIND_LIMIT, LENGTH_LIMIT, NUMBER_LIMIT, Query};
 // all bits). The limit of kinds, ranges and slides is a power of 2: so their bits tell whether one of them is outside 1
 // to it, and those of the numbers whether one is outside 1 to 65,536. With all four the compiler takes the fields of a
 // record at once.
-#[derive(Clone, Copy)]
+#[derive(Clone, Copy, Default)]
 pub(crate) struct Bits {
     pub number: u32,
     pub kind: u32,
@@ -17,14 +17,16 @@ pub(crate) struct Bits {
 }
 
 // The bits with those of one field more.
+#[tactic(auto, using(crate::proofs::Masks::field_joined))]
 fn with_field(bits: u32, field: u32) -> u32
     ensures { FieldJoined bits field result }
 {
-    bits | std::num::wrapping_sub_u32(field, 1)
+    bits | field.wrapping_sub(1)
 }
 
 impl Bits {
     // The bits with those of one record more.
+    #[tactic(auto, using(crate::proofs::Masks::record_joined))]
     pub(crate) fn with(self, q: Query) -> Bits
         ensures { bits_outside result ≡ (bits_outside self || fields_outside q) }
     {
@@ -41,15 +43,9 @@ impl Bits {
     pub(crate) fn within(self) -> bool
         ensures { result ≡ not (bits_outside self) }
     {
-        if NUMBER_LIMIT < self.number {
-            return false;
-        }
-        if KIND_LIMIT <= self.kind {
-            return false;
-        }
-        if LENGTH_LIMIT <= self.range {
-            return false;
-        }
-        self.slide < LENGTH_LIMIT
+        self.number <= NUMBER_LIMIT
+            && self.kind < KIND_LIMIT
+            && self.range < LENGTH_LIMIT
+            && self.slide < LENGTH_LIMIT
     }
 }

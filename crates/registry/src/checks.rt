@@ -1,151 +1,141 @@
-// What the calls are refused for: check 2 on the list, and checks 3 to 11 (document 01, "The calls and where each
+// What the calls are refused for: checks 1 and 2 on the list, and checks 3 to 11 (document 01, "The calls and where each
 // refuses").
-ghost use Rattle.std.specs.Prelude.{◌≡◌, ◌<◌, ◌≤◌, length};
-ghost use Rattle.window.specs.Lists.{Each};
-ghost use Rattle.window.specs.Queries.{Limits, count_limit};
+ghost use Rattle.std.specs.Prelude.{◌≡◌, ◌<◌, ◌&&◌, nat_le, length};
+ghost use Rattle.window.specs.Queries.{count_limit};
 ghost use Rattle.window.specs.Refusals.{first_refusal, register_checks, withdraw_checks, count_checks, places_checks, reading_checks};
-ghost use Rattle.registry.specs.Records.{record_limit, list_places, used, list_fits};
+ghost use Rattle.registry.specs.Held.{held, ListJudged};
+ghost use Rattle.registry.specs.Records.{list_places, list_fits};
 
 use crate::bits::Bits;
-use crate::find::holds;
-use crate::list::{LIST_PLACES, ORDER, QUERY_NUMBERS, RECORDS, query_at};
-use crate::scan::due_count;
+use crate::list::{Checked, LIST_PLACES, ORDER, Queries, RECORDS};
 use window::count::{COUNT_LIMIT, Count};
 use window::query::NUMBER_LIMIT;
-use window::refusal::{Refusal, Verdict, check_fields};
+use window::refusal::{Refusal, check_fields};
 
 // The places of an answer in the answer table.
 pub const ANSWER_PLACES: usize = 4;
 
-// Check 2 on the first k records, in one pass over the places by ascending number and over the records. Along the
-// places, each that of a used record, the numbers ascend: so the places differ and are all k of them, no two used
-// records share a number, and the last number is the greatest. An origin above n ends the pass at once: where it is
-// only remembered, the compiler takes a record's fields one by one.
-fn whole(list: &[u32], k: usize, n: Count) -> bool
-    requires { (list_places ≤ length list.now) × (k ≤ record_limit) }
-    ensures { result ≡ list_fits n k list.now }
-{
-    let mut last = 0;
-    let mut bits = Bits {
-        number: 0,
-        kind: 0,
-        range: 0,
-        slide: 0,
-    };
-    let mut j = 0;
-    while j < k {
-        let p = list[ORDER + j] as usize;
-        if k <= p {
-            return false;
-        }
-        let number = list[QUERY_NUMBERS * p];
-        if number <= last {
-            return false;
-        }
-        let q = query_at(list, j);
-        if n < q.origin {
-            return false;
-        }
-        last = number;
-        bits = bits.with(q);
-        j += 1;
-    }
-    if NUMBER_LIMIT < last {
-        return false;
-    }
-    bits.within()
-}
-
-// Check 2 on the list, with k queries registered and n readings taken. Of a list that is too short it says that it does
-// not fit.
+// Checks 1 and 2 on the list, with so many queries registered and n readings taken. What passes is handed on as checked.
 #[tactic(auto, unfolding(crate::specs::Records::list_fits))]
-pub fn fits(list: &[u32], k: usize, n: Count) -> bool
-    ensures { list_places ≤ length list.now → result ≡ list_fits n k list.now }
+pub fn check_list(list: &[u32], used: usize, n: Count) -> Result<Checked<'_>, Refusal>
+    ensures { ListJudged n used list.now result }
 {
-    if RECORDS < k {
-        return false;
-    }
     if list.len() < LIST_PLACES {
-        return false;
+        return Err(Refusal::TableTooShort);
     }
-    whole(list, k, n)
+    if RECORDS < used {
+        return Err(Refusal::Damaged);
+    }
+    let queries = Queries { list, used };
+    if !queries.whole(n) {
+        return Err(Refusal::Damaged);
+    }
+    Ok(Checked { queries })
 }
 
-// Checks 3 to 8.
-pub fn check_register(
-    list: &[u32],
-    k: usize,
-    number: u32,
-    kind: u32,
-    range: u32,
-    slide: u32,
-) -> Verdict
-    requires { (list_places ≤ length list.now) × (k ≤ record_limit) }
-    ensures { result ≡ first_refusal (register_checks (used k list.now) number kind range slide) }
+// Whether the list passes them.
+pub fn fits(list: &[u32], used: usize, n: Count) -> bool
+    ensures { result ≡ (nat_le list_places (length list.now) && list_fits n used list.now) }
 {
-    match check_fields(number, kind, range, slide) {
-        Verdict::Refused(refusal) => {
-            return Verdict::Refused(refusal);
-        }
-        Verdict::Passed => {}
-    }
-    if holds(list, k, number) {
-        return Verdict::Refused(Refusal::NumberTaken);
-    }
-    if RECORDS <= k {
-        return Verdict::Refused(Refusal::ListFull);
-    }
-    Verdict::Passed
-}
-
-// Check 9.
-#[tactic(auto, unfolding(window::specs::Refusals::withdraw_checks))]
-pub fn check_withdraw(list: &[u32], k: usize, number: u32) -> Verdict
-    requires { (list_places ≤ length list.now) × (k ≤ record_limit) }
-    ensures { result ≡ first_refusal (withdraw_checks (used k list.now) number) }
-{
-    if holds(list, k, number) {
-        return Verdict::Passed;
-    }
-    Verdict::Refused(Refusal::NotRegistered)
+    check_list(list, used, n).is_ok()
 }
 
 // Check 10, with n readings taken: the next one can be counted.
 #[tactic(auto, unfolding(window::specs::Refusals::count_checks))]
-pub fn check_count(n: Count) -> Verdict
+pub fn check_count(n: Count) -> Result<(), Refusal>
     ensures { result ≡ first_refusal (count_checks count_limit n) }
 {
     if COUNT_LIMIT <= n {
-        return Verdict::Refused(Refusal::CountExhausted);
+        return Err(Refusal::CountExhausted);
     }
-    Verdict::Passed
+    Ok(())
 }
 
-// Check 11, with n readings taken and an answer table of this many places. Where there are places for all queries, it
-// is not asked how many are due.
-pub fn check_places(list: &[u32], k: usize, n: Count, places: usize) -> Verdict
-    requires { (list_places ≤ length list.now) × (k ≤ record_limit) × Each Limits (used k list.now) × (n < count_limit) }
-    ensures { result ≡ first_refusal (places_checks n (used k list.now) places) }
-{
-    if ANSWER_PLACES * k <= places {
-        return Verdict::Passed;
-    }
-    if places < ANSWER_PLACES * due_count(list, k, n + 1) {
-        return Verdict::Refused(Refusal::AnswersTooShort);
-    }
-    Verdict::Passed
-}
-
-// Checks 10 and 11.
-pub fn check_reading(list: &[u32], k: usize, n: Count, places: usize) -> Verdict
-    requires { (list_places ≤ length list.now) × (k ≤ record_limit) × Each Limits (used k list.now) }
-    ensures { result ≡ first_refusal (reading_checks n (used k list.now) places) }
-{
-    match check_count(n) {
-        Verdict::Refused(refusal) => {
-            return Verdict::Refused(refusal);
+impl Queries<'_> {
+    // Check 2, in one pass over the places by ascending number and over the records. Along the places, each that of a
+    // used record, the numbers ascend: so the places differ and are those of all used records, no two of which share a
+    // number, and the last number is the greatest. An origin above n ends the pass at once: where it is only
+    // remembered, the compiler takes a record's fields one by one.
+    fn whole(self, n: Count) -> bool
+        ensures { result ≡ list_fits n self.entry.used self.entry.list.now }
+    {
+        let mut last = 0;
+        let mut bits = Bits::default();
+        for j in 0..self.used {
+            let p = self.list[ORDER + j] as usize;
+            if self.used <= p {
+                return false;
+            }
+            let number = self.query(p).number;
+            if number <= last {
+                return false;
+            }
+            let q = self.query(j);
+            if n < q.origin {
+                return false;
+            }
+            last = number;
+            bits = bits.with(q);
         }
-        Verdict::Passed => {}
+        last <= NUMBER_LIMIT && bits.within()
     }
-    check_places(list, k, n, places)
+
+    // Checks 3 to 8.
+    #[tactic(auto, using(crate::proofs::Verdicts::register_field, crate::proofs::Verdicts::register_taken, crate::proofs::Verdicts::register_full, crate::proofs::Verdicts::register_joins))]
+    pub fn check_register(
+        self,
+        number: u32,
+        kind: u32,
+        range: u32,
+        slide: u32,
+    ) -> Result<(), Refusal>
+        ensures { result ≡ first_refusal (register_checks (held self.entry) number kind range slide) }
+    {
+        check_fields(number, kind, range, slide)?;
+        if self.holds(number) {
+            return Err(Refusal::NumberTaken);
+        }
+        if RECORDS <= self.used {
+            return Err(Refusal::ListFull);
+        }
+        Ok(())
+    }
+
+    // Check 9.
+    #[tactic(auto, unfolding(window::specs::Refusals::withdraw_checks))]
+    pub fn check_withdraw(self, number: u32) -> Result<(), Refusal>
+        ensures { result ≡ first_refusal (withdraw_checks (held self.entry) number) }
+    {
+        if !self.holds(number) {
+            return Err(Refusal::NotRegistered);
+        }
+        Ok(())
+    }
+}
+
+impl Checked<'_> {
+    // Check 11, with n readings taken and an answer table of this many places. Where there are places for all queries,
+    // it is not asked how many are due.
+    #[tactic(auto, using(crate::proofs::Verdicts::places_short, crate::proofs::Verdicts::places_enough, crate::proofs::Scans::due_few))]
+    pub fn check_places(self, n: Count, places: usize) -> Result<(), Refusal>
+        requires { n < count_limit }
+        ensures { result ≡ first_refusal (places_checks n (held self.entry.queries) places) }
+    {
+        if ANSWER_PLACES * self.queries.used <= places {
+            return Ok(());
+        }
+        if places < ANSWER_PLACES * self.due_count(n + 1) {
+            return Err(Refusal::AnswersTooShort);
+        }
+        Ok(())
+    }
+
+    // Checks 10 and 11.
+    #[tactic(auto, using(window::proofs::Refusals::count_passed, crate::proofs::Verdicts::reading_uncounted, crate::proofs::Verdicts::reading_counted))]
+    pub fn check_reading(self, n: Count, places: usize) -> Result<(), Refusal>
+        ensures { result ≡ first_refusal (reading_checks n (held self.entry.queries) places) }
+    {
+        check_count(n)?;
+        self.check_places(n, places)
+    }
 }

@@ -3,23 +3,21 @@ ghost use Rattle.std.specs.Prelude.{◌≡◌, suc, ◌+◌, ◌<◌, ◌≤◌,
 ghost use Rattle.registry.specs.Records.{record_limit, order_at, list_places, order, rank, inserted};
 ghost use Rattle.registry.specs.Edits.{PlacesIn, appended, Appended, Withdrawn, Cleared};
 
-use crate::list::{ORDER, QUERY_NUMBERS, RECORDS, put_query, query_at, unused};
+use crate::list::{LIST_PLACES, ORDER, QUERY_NUMBERS, Queries, put_query};
+use std::mem::replace;
 use window::query::Query;
 
-// How many of the first k places by ascending number come before the first whose number is not less than this one.
-fn rank(list: &[u32], k: usize, number: u32) -> usize
-    requires { (list_places ≤ length list.now) × (k ≤ record_limit) × PlacesIn k list.now }
-    ensures { (result ≡ rank number list.now (order k list.now)) × (result ≤ k) }
-{
-    let mut j = 0;
-    while j < k {
-        let p = list[ORDER + j] as usize;
-        if number <= list[QUERY_NUMBERS * p] {
-            return j;
-        }
-        j += 1;
+impl Queries<'_> {
+    // How many of the places by ascending number come before the first whose number is not less than this one.
+    fn rank(self, number: u32) -> usize
+        requires { PlacesIn self.used self.list.now }
+        ensures { (result ≡ rank number self.entry.list.now (order self.entry.used self.entry.list.now)) × (result ≤ self.entry.used) }
+    {
+        self.list[ORDER..ORDER + self.used]
+            .iter()
+            .take_while(|place| self.query(**place as usize).number < number)
+            .count()
     }
-    j
 }
 
 // The place k comes behind the first r of the places by ascending number, and before the others of the first k.
@@ -29,22 +27,19 @@ fn put_place(list: &mut [u32], k: usize, r: usize)
         ≡ take order_at list.old ++ (take r (order k list.old) ++ k ∷ drop r (order k list.old)) ++ drop (order_at + suc k) list.old }
 {
     let mut carried = k as u32;
-    let mut j = r;
-    while j <= k {
-        let p = list[ORDER + j];
-        list[ORDER + j] = carried;
-        carried = p;
-        j += 1;
+    for j in r..k + 1 {
+        carried = replace(&mut list[ORDER + j], carried);
     }
 }
 
 // The place of record k joins those of the first k.
+#[tactic(auto, using(crate::proofs::Joining::inserted_at))]
 pub fn insert(list: &mut [u32], k: usize)
     requires { (list_places ≤ length list.old) × (k < record_limit) × PlacesIn k list.old }
     ensures { list.new ≡ inserted k list.old }
 {
-    let number = list[QUERY_NUMBERS * k];
-    let r = rank(list, k, number);
+    let queries = Queries { list, used: k };
+    let r = queries.rank(queries.query(k).number);
     put_place(list, k, r);
 }
 
@@ -63,12 +58,8 @@ pub fn clear(list: &mut [u32], k: usize)
     requires { (list_places ≤ length list.old) × (k ≤ record_limit) }
     ensures { Cleared k list.old list.new }
 {
-    let mut i = k;
-    while i < RECORDS {
-        put_query(list, i, unused());
-        list[ORDER + i] = 0;
-        i += 1;
-    }
+    list[QUERY_NUMBERS * k..ORDER].fill(0);
+    list[ORDER + k..LIST_PLACES].fill(0);
 }
 
 // The query with this number leaves the first k: the others join anew, one after the other, each at its place or an
@@ -78,14 +69,12 @@ pub fn withdraw(list: &mut [u32], k: usize, number: u32) -> usize
     ensures { Withdrawn number k list.old result list.new }
 {
     let mut kept = 0;
-    let mut i = 0;
-    while i < k {
-        let q = query_at(list, i);
+    for i in 0..k {
+        let q = Queries { list, used: k }.query(i);
         if number != q.number {
             append(list, kept, q);
             kept += 1;
         }
-        i += 1;
     }
     clear(list, kept);
     kept

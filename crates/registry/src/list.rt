@@ -1,10 +1,11 @@
 // The list of registered queries (document 01, "The board"), as numbers that are lent: 32 records of five numbers
 // (number, kind, range, slide, registration point), and the places of the used records by ascending number. The used
 // records come first, in registration order. Registration points of 64 bits would take two numbers of a record.
-ghost use Rattle.std.specs.Prelude.{◌≡◌, ◌<◌, ◌≤◌, length};
-ghost use Rattle.registry.specs.Records.{record_limit, list_places, origin_at, record_at, with_record, unused};
+ghost use Rattle.std.specs.Prelude.{◌≡◌, ℕ, ◌<◌, ◌≤◌, length};
+ghost use Rattle.window.specs.Queries.{Limits};
+ghost use Rattle.registry.specs.Records.{record_limit, list_places, record_at, with_record};
 
-use window::count::{Count, count_of, narrow};
+use window::count::{Count, narrow};
 use window::query::Query;
 
 // How many records the list has.
@@ -19,39 +20,36 @@ pub const ORDER: usize = 160;
 // How many numbers the list has.
 pub const LIST_PLACES: usize = 192;
 
-// The registration point of the record at place i.
-fn origin_at(list: &[u32], i: usize) -> Count
-    requires { (list_places ≤ length list.now) × (i < record_limit) }
-    ensures { result ≡ origin_at list.now i }
-{
-    count_of(list[QUERY_NUMBERS * i + 4])
+// The registered queries: a list that is long enough, and how many of its records are used.
+#[derive(Clone, Copy)]
+pub struct Queries<'a> {
+    pub list: &'a [u32],
+    pub used: usize,
+    ghost long: { list_places ≤ length list.now },
+    ghost few: { used ≤ record_limit },
 }
 
-// The record at place i.
-pub fn query_at(list: &[u32], i: usize) -> Query
-    requires { (list_places ≤ length list.now) × (i < record_limit) }
-    ensures { result ≡ record_at list.now i }
-{
-    let at = QUERY_NUMBERS * i;
-    Query {
-        number: list[at],
-        kind: list[at + 1],
-        range: list[at + 2],
-        slide: list[at + 3],
-        origin: origin_at(list, i),
-    }
+// The same where the fields of each used record are within their limits, as they are after check 2.
+#[derive(Clone, Copy)]
+pub struct Checked<'a> {
+    pub queries: Queries<'a>,
+    ghost limits: { (i : ℕ) → i < queries.used → Limits (record_at queries.list.now i) },
 }
 
-// An unused record is all 0.
-pub fn unused() -> Query
-    ensures { result ≡ unused }
-{
-    Query {
-        number: 0,
-        kind: 0,
-        range: 0,
-        slide: 0,
-        origin: 0,
+impl Queries<'_> {
+    // The record at place i.
+    pub fn query(self, i: usize) -> Query
+        requires { i < record_limit }
+        ensures { result ≡ record_at self.entry.list.now i }
+    {
+        let at = QUERY_NUMBERS * i;
+        Query {
+            number: self.list[at],
+            kind: self.list[at + 1],
+            range: self.list[at + 2],
+            slide: self.list[at + 3],
+            origin: Count::from(self.list[at + 4]),
+        }
     }
 }
 

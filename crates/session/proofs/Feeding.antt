@@ -1,30 +1,35 @@
 -- The bytes of a chunk, taken a line at a time, are the session's bytes one after the other.
 -- Assumes nothing.
 use Prim.Native.Nat.{ℕ, suc, ◌+◌, ◌≤◌, ◌<◌}
-use native.Mathlib.Numerals.{add-one}
 use native.Mathlib.Omega.{arith}
-use mathlib.Core.Path.{◌≡◌, refl, sym, ap, subst, ◌∙◌}
-use mathlib.Core.Bool.{Bool, true, false, cond}
+use mathlib.Core.Path.{◌≡◌, refl, sym, ap, ◌∙◌}
+use mathlib.Core.Bool.{Bool, false, cond}
 use mathlib.Core.List.{List, [], ◌∷◌, ◌++◌, append_assoc, append-nil}
 use lib.Dec.{eqb}
 use borrow.Author.Tests.{eqb-true}
+use Rattle.std.specs.Prelude.{None, Some, Result, position}
+use Rattle.std.specs.List.{slice_range}
+use Rattle.std.proofs.lemmas.List.{take_more, take_rest, drop-take, length-take, get_or-take}
+use Rattle.std.proofs.lemmas.Slice.{between_is}
+use Rattle.std.proofs.lemmas.List.Quantifiers.{position-Some}
+use Rattle.window.specs.declared.refusal.Refusal.{Refusal}
 use lib.IntN.{ℤ}
 use lib.ListN.{length, get_or, take, drop, length-drop}
-use lib.Seq.{slice, slice_empty, take-suc, length-take-le, drop-append-le, get_or-drop}
+use lib.Seq.{slice, slice_empty}
 use Rattle.board.specs.Tables.{Tables}
 use Rattle.engine.specs.Machine.{machine}
 use Rattle.board.proofs.Lending.{tables-same, tables_then}
 use Rattle.registry.proofs.Laying.{kept_same, kept_then}
 use Rattle.parse.specs.declared.line.Line.{Line}
-use Rattle.parse.specs.Fields.{until}
 use Rattle.parse.specs.Lines.{parsed}
-use Rattle.parse.specs.Kept.{kept_length, kept_line}
-use Rattle.parse.proofs.Slices.{slice_is, slice_then}
+use Rattle.parse.specs.Kept.{kept_length, kept_line, SameBeyond}
+use Rattle.parse.proofs.Slices.{slice_then}
+use Rattle.parse.proofs.Scanning.{none_found}
 use Rattle.parse.proofs.Keeping.{parsed-kept, take-joined}
 use Rattle.print.proofs.Putting.{put-none, put_then, puts_none, puts_then}
+use Rattle.board.specs.declared.tables.LentTables.{LentTables}
+use Rattle.board.specs.Lending.{SameSlices}
 use Rattle.session.specs.declared.stream.Session.{Session}
-use Rattle.session.specs.declared.stream.Taken.{Taken}
-use Rattle.session.specs.declared.stream.Ended.{Ended}
 use Rattle.session.specs.Meaning.{answer_table}
 use Rattle.session.specs.Stream.{Running, Streamed, line_ended, line_extended, fed, following, fed_all}
 use Rattle.session.specs.Promises.{Held, held, HeldKept, keeping, Shown, Says, line_limit, LineEnsures, Streams, RestEnsures}
@@ -35,154 +40,120 @@ use Rattle.session.proofs.Streaming.{fed-append}
 extended_none : (r : Running) → fed_all r [] ≡ line_extended r []
 extended_none r = ap (λ (l : List ℕ). record { running = record { position = r.position; line = l }; text = [] }) (sym (append-nil r.line))
 
--- the bytes before the next byte 10 join the current line
-fed-until : (l : List ℕ) (r : Running) → fed_all r (take (until 10 l) l) ≡ line_extended r (take (until 10 l) l)
+-- bytes of which none is byte 10 join the current line
+fed_plain : (l : List ℕ) (r : Running) → ((k : ℕ) → k < length l → eqb (get_or l k 0) 10 ≡ false) → fed_all r l ≡ line_extended r l
 unfolding fed
-fed-until [] r = extended_none r
-fed-until (x ∷ xs) r = go (eqb x 10) refl (fed-until xs (record { position = r.position; line = r.line ++ (x ∷ []) }))
-  where
-    rest : List ℕ
-    rest = take (until 10 xs) xs
-
-    go : (b : Bool) → eqb x 10 ≡ b → fed_all (record { position = r.position; line = r.line ++ (x ∷ []) }) rest ≡ line_extended (record { position = r.position; line = r.line ++ (x ∷ []) }) rest
-        → fed_all r (take (cond b 0 (suc (until 10 xs))) (x ∷ xs)) ≡ line_extended r (take (cond b 0 (suc (until 10 xs))) (x ∷ xs))
-    go true e ih = extended_none r
-    go false e ih =
-        ap (λ (b : Bool). following (cond b (line_ended r) (line_extended r (x ∷ []))).text (fed_all (cond b (line_ended r) (line_extended r (x ∷ []))).running rest)) e
-        ∙ ih
-        ∙ ap (λ (l : List ℕ). record { running = record { position = r.position; line = l }; text = [] }) (append_assoc r.line (x ∷ []) rest)
+fed_plain [] r plain = extended_none r
+fed_plain (x ∷ xs) r plain =
+    ap (λ (b : Bool). following (cond b (line_ended r) (line_extended r (x ∷ []))).text (fed_all (cond b (line_ended r) (line_extended r (x ∷ []))).running xs)) (plain 0 (omega arith))
+    ∙ fed_plain xs (record { position = r.position; line = r.line ++ (x ∷ []) }) (λ k h. plain (suc k) (omega arith))
+    ∙ ap (λ (l : List ℕ). record { running = record { position = r.position; line = l }; text = [] }) (append_assoc r.line (x ∷ []) xs)
 
 -- and that byte ends it
 fed_end : (q : Running) → fed_all q (10 ∷ []) ≡ line_ended q
 unfolding fed
 fed_end q = ap (λ (l : List ℕ). record { running = (line_ended q).running; text = l }) (append-nil (line_ended q).text)
 
--- ---- a chunk
-
--- the byte before which they end, if there is one
-until-at : (b : ℕ) (l : List ℕ) → until b l < length l → get_or l (until b l) 0 ≡ b
-until-at b [] h = absurd (omega arith)
-until-at b (x ∷ xs) h = go (eqb x b) refl h (until-at b xs)
-  where
-    go : (t : Bool) → eqb x b ≡ t → cond t 0 (suc (until b xs)) < suc (length xs) → (until b xs < length xs → get_or xs (until b xs) 0 ≡ b)
-        → get_or (x ∷ xs) (cond t 0 (suc (until b xs))) 0 ≡ b
-    go true e l ih = eqb-true x b e
-    go false e l ih = ih (omega arith)
-
-module _ (chunk : List ℕ) (from to : ℕ) (is : to ≡ from + until 10 (drop from chunk)) where
-  -- up to the next byte 10 or the chunk's end
-  line_part : slice from to chunk ≡ take (until 10 (drop from chunk)) (drop from chunk)
-  line_part = ap (λ (n : ℕ). slice from n chunk) is ∙ slice_is from (until 10 (drop from chunk)) chunk
-
-  -- and one further
-  line_byte : to < length chunk → slice from (to + 1) chunk ≡ slice from to chunk ++ (10 ∷ [])
-  line_byte h =
-      let inside : until 10 (drop from chunk) < length (drop from chunk) = omega (arith, length-drop from chunk) in
-      let byte : get_or chunk to 0 ≡ 10 =
-      ap (λ (n : ℕ). get_or chunk n 0) is ∙ sym (get_or-drop from chunk (until 10 (drop from chunk)) 0) ∙ until-at 10 (drop from chunk) inside in
-      ap (λ (n : ℕ). drop from (take n chunk)) (add-one to)
-      ∙ ap (drop from) (take-suc chunk to 0 h)
-      ∙ drop-append-le from (take to chunk) (get_or chunk to 0 ∷ []) (omega (arith, length-take-le to chunk (omega arith)))
-      ∙ ap (λ (b : ℕ). slice from to chunk ++ (b ∷ [])) byte
-
-  -- these bytes join the current line
-  fed_part : (r : Running) → fed_all r (slice from to chunk) ≡ line_extended r (slice from to chunk)
-  fed_part r = rw line_part (fed-until (drop from chunk) r)
-
-  module _ (s : Session) (list line : List ℕ) (t : Tables) (line' : List ℕ) (same : (length line' ≡ length line) × (drop kept_length line' ≡ drop kept_length line)) where
-    -- there is as much room for a line
-    same-room : kept_length ≤ length line → kept_length ≤ length line'
-    same-room h = omega (arith, h, same.0)
-
-    -- the chunk ends before the line does
-    pub line_kept : (kept : ℕ) (old : List ℕ) (at : ℕ) → kept_line kept line' ≡ take kept_length (kept_line s.kept line ++ slice from to chunk)
-        → Streams (slice from to chunk) (held s list line t) old at (held (keeping s kept) list line' t) old at
-    line_kept kept old at keeps =
-        record {
-          says = λ r sh. rw (fed_part r) (record { shown = longer r sh; text = put-none old at });
-          puts = puts_none old at;
-          kept = record { list = kept_same list; line = record { as_long = same.0; beyond = same.1 }; tables = tables-same t };
-        }
-      where
-        -- the current line is longer by these bytes
-        longer : (r : Running) → Shown r (held s list line t) → Shown (line_extended r (slice from to chunk)).running (held (keeping s kept) list line' t)
-        longer r sh =
-            record {
-              represents = sh.represents;
-              lines = sh.lines;
-              room = same-room sh.room;
-              line = keeps ∙ ap (λ (l : List ℕ). take kept_length (l ++ slice from to chunk)) sh.line ∙ take-joined kept_length r.line (slice from to chunk);
-            }
-
-    -- the line ends in the chunk
-    pub line_taken : {asked : Line} {s' : Session} {list' : List ℕ} {t' : Tables} {old new : List ℕ} {at next : ℕ} → to < length chunk → asked ≡ parsed (take kept_length (kept_line s.kept line ++ slice from to chunk))
-        → LineEnsures asked (machine s.state list t) s.lines old at s' (machine s'.state list' t') new next
-        → Streams (slice from (to + 1) chunk) (held s list line t) old at (held s' list' line' t') new next
-    line_taken {asked} {s'} {list'} {t'} {old} {new} {at} {next} l asks p =
-        record { says = says; puts = p.puts; kept = record { list = p.list_kept; line = record { as_long = same.0; beyond = same.1 }; tables = p.kept } }
-      where
-        bytes : List ℕ
-        bytes = slice from to chunk
-
-        ends : (r : Running) → fed_all r (slice from (to + 1) chunk) ≡ line_ended (line_extended r bytes).running
-        ends r =
-            ap (fed_all r) (line_byte l)
-            ∙ fed-append r bytes (10 ∷ [])
-            ∙ ap (λ (x : Streamed). following x.text (fed_all x.running (10 ∷ []))) (fed_part r)
-            ∙ fed_end (line_extended r bytes).running
-
-        -- what is kept of the line and these bytes ask what the line does
-        is_asked : (r : Running) → Shown r (held s list line t) → asked ≡ parsed (r.line ++ bytes)
-        is_asked r sh =
-            asks ∙ ap (λ (x : List ℕ). parsed (take kept_length (x ++ bytes))) sh.line ∙ ap parsed (take-joined kept_length r.line bytes) ∙ parsed-kept (r.line ++ bytes)
-
-        says : (r : Running) → Shown r (held s list line t) → Says (fed_all r (slice from (to + 1) chunk)) (held s' list' line' t') old at new next
-        says r sh =
-            rw (ends r, sym (is_asked r sh))
-            (record {
-              shown = record {
-                represents = p.represents r.position.state sh.represents;
-                lines = ap (λ (x : Session). x.lines) p.after ∙ ap (λ (k : ℕ). k + 1) sh.lines;
-                room = same-room sh.room;
-                line = ap (λ (x : Session). kept_line x.kept line') p.after;
-              };
-              text = p.text r.position sh.represents sh.lines;
-            })
+-- bytes in which byte 10 stands first at n: those before it join the current line, and it ends it
+fed_line : (l : List ℕ) (n : ℕ) (r : Running) → position (λ x. eqb x 10) l ≡ Some n → fed_all r (take (n + 1) l) ≡ line_ended (line_extended r (take n l)).running
+fed_line l n r e =
+    let at = position-Some (λ x. eqb x 10) l n 0 e in
+    let plain : (k : ℕ) → k < length (take n l) → eqb (get_or (take n l) k 0) 10 ≡ false = λ k h. let before : k < n = omega (arith, length-take n l) in rw (get_or-take n l k 0 before) (at.2 k before) in
+    rw (take_more l n 0 at.0, eqb-true (get_or l n 0) 10 at.1)
+    (fed-append r (take n l) (10 ∷ []) ∙ ap (λ (x : Streamed). following x.text (fed_all x.running (10 ∷ []))) (fed_plain (take n l) r plain) ∙ fed_end (line_extended r (take n l)).running)
 
 -- ---- the rest of a line
 
-module _ (chunk : List ℕ) (taken r : Taken) (to : ℕ) (list line : List ℕ) (t : Tables) (line' : List ℕ) (end : (to ≤ length chunk) × (to ≡ taken.to + until 10 (drop taken.to chunk)))
-    (byte : taken.to < length chunk) (few : taken.session.lines < line_limit) where
+module _ (s : Session) (list line : List ℕ) (t : Tables) (line' : List ℕ) (same : SameBeyond line line') where
+  -- there is as much room for a line
+  same-room : kept_length ≤ length line → kept_length ≤ length line'
+  same-room h = omega (arith, h, same.0)
+
+  -- these bytes join it
+  line_kept : (bytes : List ℕ) (kept : ℕ) (old : List ℕ) (at : ℕ) → ((r : Running) → fed_all r bytes ≡ line_extended r bytes) → kept_line kept line' ≡ take kept_length (kept_line s.kept line ++ bytes)
+      → Streams bytes (held s list line t) old at (held (keeping s kept) list line' t) old at
+  line_kept bytes kept old at joins keeps =
+      record {
+        says = λ r sh. rw (joins r) (record { shown = longer r sh; text = put-none old at });
+        puts = puts_none old at;
+        kept = record { list = kept_same list; line = record { as_long = same.0; beyond = same.1 }; tables = tables-same t };
+      }
+    where
+      -- the current line is longer by these bytes
+      longer : (r : Running) → Shown r (held s list line t) → Shown (line_extended r bytes).running (held (keeping s kept) list line' t)
+      longer r sh =
+          record {
+            represents = sh.represents;
+            lines = sh.lines;
+            room = same-room sh.room;
+            line = keeps ∙ ap (λ (l : List ℕ). take kept_length (l ++ bytes)) sh.line ∙ take-joined kept_length r.line bytes;
+          }
+
+  -- they join it, and the byte behind them ends it
+  line_taken : (bytes all : List ℕ) {asked : Result Line Refusal} {s' : Session} {list' : List ℕ} {t' : Tables} {old new : List ℕ} {at next : ℕ}
+      → ((r : Running) → fed_all r all ≡ line_ended (line_extended r bytes).running) → asked ≡ parsed (take kept_length (kept_line s.kept line ++ bytes))
+      → LineEnsures asked (machine s.state list t) s.lines old at s' (machine s'.state list' t') new next
+      → Streams all (held s list line t) old at (held s' list' line' t') new next
+  line_taken bytes all {asked} {s'} {list'} {t'} {old} {new} {at} {next} ends asks p =
+      record { says = says; puts = p.puts; kept = record { list = p.list_kept; line = record { as_long = same.0; beyond = same.1 }; tables = p.kept } }
+    where
+      -- what is kept of the line and these bytes ask what the line does
+      is_asked : (r : Running) → Shown r (held s list line t) → asked ≡ parsed (r.line ++ bytes)
+      is_asked r sh =
+          asks ∙ ap (λ (x : List ℕ). parsed (take kept_length (x ++ bytes))) sh.line ∙ ap parsed (take-joined kept_length r.line bytes) ∙ parsed-kept (r.line ++ bytes)
+
+      says : (r : Running) → Shown r (held s list line t) → Says (fed_all r all) (held s' list' line' t') old at new next
+      says r sh =
+          rw (ends r, sym (is_asked r sh))
+          (record {
+            shown = record {
+              represents = p.represents r.position.state sh.represents;
+              lines = ap (λ (x : Session). x.lines) p.after ∙ ap (λ (k : ℕ). k + 1) sh.lines;
+              room = same-room sh.room;
+              line = ap (λ (x : Session). kept_line x.kept line') p.after;
+            };
+            text = p.text r.position sh.represents sh.lines;
+          })
+
+-- what is left of the chunk, from a place on
+module _ (chunk : List ℕ) (from : ℕ) (s : Session) (list line : List ℕ) (t : Tables) (line' : List ℕ) (same : SameBeyond line line')
+    (byte : from < length chunk) (few : s.lines < line_limit) where
+  abbrev left : List ℕ
+  left = slice_range chunk from (length chunk)
+
   -- the chunk ends before the line does
-  pub rest_kept : (kept : ℕ) (old : List ℕ) → length chunk ≤ to
-      → (kept_line kept line' ≡ take kept_length (kept_line taken.session.kept line ++ slice taken.to to chunk)) × ((length line' ≡ length line) × (drop kept_length line' ≡ drop kept_length line))
-      → r ≡ record { session = keeping taken.session kept; to = to; at = taken.at }
-      → RestEnsures chunk taken.to (held taken.session list line t) old taken.at (held r.session list line' t) r.to old r.at
-  rest_kept kept old beyond (keeps, same) is =
-      subst (λ (x : Taken). RestEnsures chunk taken.to (held taken.session list line t) old taken.at (held x.session list line' t) x.to old x.at) (sym is)
-      (record {
-        streams = line_kept chunk taken.to to end.1 taken.session list line t line' same kept old taken.at keeps;
-        onward = omega (arith, beyond, byte);
-        inside = end.0;
+  pub rest_kept : (kept : ℕ) (old : List ℕ) (at : ℕ) → None ≡ position (λ x. eqb x 10) left
+      → kept_line kept line' ≡ take kept_length (kept_line s.kept line ++ left)
+      → RestEnsures chunk from (held s list line t) old at (held (keeping s kept) list line' t) (length chunk) old at
+  rest_kept kept old at none keeps =
+      let all : left ≡ slice from (length chunk) chunk = between_is chunk from (length chunk) in
+      let joins : (q : Running) → fed_all q left ≡ line_extended q left = λ q. fed_plain left q (λ k h. none_found (λ x. eqb x 10) left (sym none) k 0 h) in
+      let streams : Streams left (held s list line t) old at (held (keeping s kept) list line' t) old at = line_kept s list line t line' same left kept old at joins keeps in
+      record {
+        streams = rw (sym all) streams;
+        onward = byte;
+        inside = omega arith;
         room = omega arith;
         few = omega (arith, few);
-      })
+      }
 
-  -- the line ends in the chunk
-  pub rest_taken : {asked : Line} {e : Ended} {list' : List ℕ} {t' : Tables} {old new : List ℕ} → to < length chunk
-      → (asked ≡ parsed (take kept_length (kept_line taken.session.kept line ++ slice taken.to to chunk))) × ((length line' ≡ length line) × (drop kept_length line' ≡ drop kept_length line))
-      → LineEnsures asked (machine taken.session.state list t) taken.session.lines old taken.at e.session (machine e.session.state list' t') new e.at
-      → r ≡ record { session = e.session; to = to + 1; at = e.at }
-      → RestEnsures chunk taken.to (held taken.session list line t) old taken.at (held r.session list' line' t') r.to new r.at
-  rest_taken {asked} {e} {list'} {t'} {old} {new} inside (asks, same) p is =
-      subst (λ (x : Taken). RestEnsures chunk taken.to (held taken.session list line t) old taken.at (held x.session list' line' t') x.to new x.at) (sym is)
-      (record {
-        streams = line_taken chunk taken.to to end.1 taken.session list line t line' same inside asks p;
-        onward = omega (arith, end);
-        inside = omega (arith, inside);
+  -- the line ends in it
+  pub rest_taken : (n : ℕ) {asked : Result Line Refusal} {next : Session} {list' : List ℕ} {t' : Tables} {old new : List ℕ} {at at' : ℕ} → Some n ≡ position (λ x. eqb x 10) left
+      → asked ≡ parsed (take kept_length (kept_line s.kept line ++ take n left))
+      → LineEnsures asked (machine s.state list t) s.lines old at next (machine next.state list' t') new at'
+      → RestEnsures chunk from (held s list line t) old at (held next list' line' t') (from + n + 1) new at'
+  rest_taken n {asked} {next} {list'} {t'} {old} {new} {at} {at'} found asks p =
+      let inside : n < length left = (position-Some (λ x. eqb x 10) left n 0 (sym found)).0 in
+      let rest : left ≡ drop from chunk = take_rest chunk from in
+      let all : take (n + 1) left ≡ slice from (from + n + 1) chunk = ap (take (n + 1)) rest ∙ sym (drop-take from (n + 1) chunk) ∙ ap (λ (k : ℕ). slice from k chunk) (omega arith) in
+      let streams = line_taken s list line t line' same (take n left) (take (n + 1) left) (λ q. fed_line left n q (sym found)) asks p in
+      record {
+        streams = rw (sym all) streams;
+        onward = omega arith;
+        inside = omega (arith, inside, ap length rest, length-drop from chunk);
         room = p.room;
-        few = omega (arith, few, ap (λ (s : Session). s.lines) p.after);
-      })
+        few = omega (arith, few, ap (λ (x : Session). x.lines) p.after);
+      }
 
 -- ---- one after the other
 
@@ -195,6 +166,21 @@ held_then p q =
       list = kept_then p.list q.list;
       line = record { as_long = q.line.as_long ∙ p.line.as_long; beyond = q.line.beyond ∙ p.line.beyond };
       tables = tables_then p.tables q.tables;
+    }
+
+-- the tables are the slices that they were
+pub slices_same : (t : LentTables) → SameSlices t t
+slices_same t = record { starts = refl; sums = refl; max_starts = refl; max_values = refl; min_starts = refl; min_values = refl }
+
+pub slices_then : {t u v : LentTables} → SameSlices t u → SameSlices u v → SameSlices t v
+slices_then p q =
+    record {
+      starts = q.starts ∙ p.starts;
+      sums = q.sums ∙ p.sums;
+      max_starts = q.max_starts ∙ p.max_starts;
+      max_values = q.max_values ∙ p.max_values;
+      min_starts = q.min_starts ∙ p.min_starts;
+      min_values = q.min_values ∙ p.min_values;
     }
 
 pub streams-none : (chunk : List ℕ) (from : ℕ) (h : Held) (old : List ℕ) (at : ℕ) → Streams (slice from from chunk) h old at h old at

@@ -18,6 +18,8 @@ use Rattle.engine.specs.States.{FreshState}
 use Rattle.engine.specs.Machine.{Machine, machine, machine_long, closed_of, Represents}
 use Rattle.engine.specs.Promises.{StartEnsures}
 use Rattle.board.proofs.Lending.{tables-same}
+use Rattle.std.specs.Prelude.{Result}
+use Rattle.window.specs.declared.refusal.Refusal.{Refusal}
 use Rattle.parse.specs.declared.line.Line.{Line}
 use Rattle.parse.specs.Lines.{parsed}
 use Rattle.parse.specs.Kept.{kept_length, kept_line}
@@ -28,7 +30,7 @@ use Rattle.print.proofs.Putting.{put-none, put_then, put_as, puts_none, puts_the
 use Rattle.session.specs.declared.stream.Session.{Session}
 use Rattle.session.specs.Meaning.{Reported, line_reported, finished, totals_text, line_room}
 use Rattle.session.specs.Stream.{Running, begun, ended}
-use Rattle.session.specs.Promises.{Held, held, session_machine, RefusesEnsures, new_line, Shown, line_limit, has_last, goes_on, LineEnsures, lent, OpenEnsures, finish_room, FinishEnsures}
+use Rattle.session.specs.Promises.{Held, held, session_machine, refuses_all, new_line, Shown, line_limit, has_last, goes_on, LineEnsures, lent, OpenEnsures, finish_room, FinishEnsures}
 
 -- ---- the first session
 
@@ -125,7 +127,7 @@ module _ (s : Session) (list line : List ℕ) (t : Tables) (old : List ℕ) wher
       }
 
   -- there is one
-  pub one_line : {asked : Line} {s' : Session} {m : Machine} {new : List ℕ} {next : ℕ} → has_last s ≡ true → asked ≡ parsed (kept_line s.kept line)
+  pub one_line : {asked : Result Line Refusal} {s' : Session} {m : Machine} {new : List ℕ} {next : ℕ} → has_last s ≡ true → asked ≡ parsed (kept_line s.kept line)
       → LineEnsures asked (machine s.state list t) s.lines old 0 s' m new next → LastLine (held s list line t) old m new next
   one_line {asked} {s'} {m} {new} {next} last asks p =
       record {
@@ -156,15 +158,15 @@ ended_by : (r : Running) (b : Bool) → begun r.line ≡ b → ended r ≡ cond 
 unfolding ended
 ended_by r b e = ap (λ (x : Bool). cond x (finished (line_reported r.position (parsed r.line))) (totals_text r.position.state)) e
 
-pub finishes : (h : Held) (m : Machine) (old mid new : List ℕ) (next filled : ℕ) {refuses : Bool} → RefusesEnsures (session_machine h) (length h.line) refuses → refuses ≡ false → LastLine h old m mid next
+pub finishes : (h : Held) (m : Machine) (old mid new : List ℕ) (next filled : ℕ) → refuses_all (session_machine h) (length h.line) ≡ false → LastLine h old m mid next
     → finish_room ≤ length old → length new ≡ length old
-    → (Put mid next (totals_line m.state.count m.state.board.closed m.state.board.maxima.comparisons m.state.board.minima.comparisons) new filled) × (filled ≤ next + totals_room)
+    → Put mid next (totals_line m.state.count m.state.board.closed m.state.board.maxima.comparisons m.state.board.minima.comparisons) new filled → filled ≤ next + totals_room
     → FinishEnsures h old (lent m.list m.tables) new filled
-finishes h m old mid new next filled told passed last room size (text, end) =
+finishes h m old mid new next filled passed last room size text end =
     record {
       says = λ r sh few long. says r sh few (begun r.line) refl;
       short = λ l. absurd (omega arith);
-      refuses = λ e. absurd (false≢true (sym passed ∙ told.always e));
+      refuses = λ e. absurd (false≢true (sym passed ∙ e));
       puts = puts_then last.puts (record { bytes = _; put = text });
       fits = omega (arith, last.room, end, size);
       list_kept = last.list_kept;

@@ -7,7 +7,7 @@ use mathlib.Core.Bool.{Bool, true, false, cond}
 use mathlib.Core.List.{List, [], ◌∷◌, ◌++◌, append_assoc, append-nil}
 use lib.Dec.{eqb}
 use lib.ListN.{length}
-use Rattle.parse.specs.Fields.{onto}
+use Rattle.std.specs.List.{onto_first}
 use Rattle.parse.specs.Lines.{parsed}
 use Rattle.session.specs.Meaning.{Position, lines, line_reported, lines_reported, fresh, finished, totals_text, session_output}
 use Rattle.session.specs.Stream.{Running, Streamed, opened, line_ended, line_extended, fed, following, fed_all, ended}
@@ -33,7 +33,7 @@ last_more [] b = refl
 last_more (x ∷ xs) b = refl
 
 -- a byte that joins the current line
-behind_onto : (line : List ℕ) (b : ℕ) (ls : List (List ℕ)) → behind (line ++ (b ∷ [])) ls ≡ behind line (onto b ls)
+behind_onto : (line : List ℕ) (b : ℕ) (ls : List (List ℕ)) → behind (line ++ (b ∷ [])) ls ≡ behind line (onto_first b ls)
 behind_onto line b [] = last_more line b
 behind_onto line b (l ∷ ls) = ap (λ (t : List ℕ). t ∷ ls) (append_assoc line (b ∷ []) l)
 
@@ -73,7 +73,7 @@ bytes_are_lines (b ∷ bs) p line = go (eqb b 10) (bytes_are_lines bs)
 
     go : (t : Bool) → ((q : Position) (l : List ℕ) → whole (fed_all (at q l) bs) ≡ finished (lines_reported q (behind l (lines bs))))
         → whole (following (cond t (line_ended r) (line_extended r (b ∷ []))).text (fed_all (cond t (line_ended r) (line_extended r (b ∷ []))).running bs))
-        ≡ finished (lines_reported p (behind line (cond t ([] ∷ lines bs) (onto b (lines bs)))))
+        ≡ finished (lines_reported p (behind line (cond t ([] ∷ lines bs) (onto_first b (lines bs)))))
     go true ih = ending (λ q. ih q []) ∙ ap (λ (l : List ℕ). finished (lines_reported p (l ∷ lines bs))) (sym (append-nil line))
     go false ih = ih p (line ++ (b ∷ [])) ∙ ap (λ (ls : List (List ℕ)). finished (lines_reported p ls)) (behind_onto line b (lines bs))
 

@@ -1,13 +1,15 @@
 -- What a session means (document 01, "Session lines"): its lines, what each asks of the reference model, and what the
 -- program prints.
 -- Assumes nothing.
-use Rattle.std.specs.Prelude.{ℕ, ◌+◌, ◌*◌, cond, List, [], ◌∷◌, ◌++◌, eqb, ℤ, pos, nat_abs, length, get_or}
+use Rattle.std.specs.Prelude.{ℕ, ◌+◌, ◌*◌, cond, List, [], ◌∷◌, ◌++◌, eqb, ℤ, pos, nat_abs, length, get_or, Result, Ok, Err}
+use Rattle.std.specs.List.{onto_first}
+use Rattle.window.specs.declared.refusal.Refusal.{Refusal}
 use Rattle.window.specs.Queries.{query_limit}
 use Rattle.window.specs.Refusals.{refusal_number, answer_places}
 use Rattle.window.specs.Calls.{register, withdraw, reading, Answer, Outcome, accepted, refused}
 use Rattle.window.specs.Model.{State, count, initial, Stepped, step}
 use Rattle.parse.specs.declared.line.Line.{Line}
-use Rattle.parse.specs.Fields.{onto}
+use Rattle.parse.specs.declared.line.Line.TheVariants.{Register, Withdraw, Reading}
 use Rattle.parse.specs.Lines.{parsed}
 use Rattle.print.specs.Lines.{answer_line, refusal_line, totals_line, answer_room}
 
@@ -16,7 +18,7 @@ use Rattle.print.specs.Lines.{answer_line, refusal_line, totals_line, answer_roo
 -- a line ends at byte 10; a last line without it counts if it has a byte
 abbrev pub lines : List ℕ → List (List ℕ)
 lines [] = []
-lines (b ∷ bs) = cond (eqb b 10) ([] ∷ lines bs) (onto b (lines bs))
+lines (b ∷ bs) = cond (eqb b 10) ([] ∷ lines bs) (onto_first b (lines bs))
 
 -- ---- one line
 
@@ -25,11 +27,11 @@ abbrev pub answer_table : ℕ
 answer_table = answer_places * query_limit
 
 -- what a line asks of the model; a line that is refused changes nothing
-unfoldable pub line_step : State → Line → Stepped
-line_step s (Line.Register number kind range slide) = step s (register number kind range slide)
-line_step s (Line.Withdraw number) = step s (withdraw number)
-line_step s (Line.Reading value) = step s (reading value answer_table)
-line_step s (Line.Refused r) = record { state = s; outcome = refused (refusal_number r) }
+unfoldable pub line_step : State → Result Line Refusal → Stepped
+line_step s (Ok (Register number kind range slide)) = step s (register number kind range slide)
+line_step s (Ok (Withdraw number)) = step s (withdraw number)
+line_step s (Ok (Reading value)) = step s (reading value answer_table)
+line_step s (Err r) = record { state = s; outcome = refused (refusal_number r) }
 
 -- an answer prints A, n, number, kind, count, value
 unfoldable pub answer_text : ℕ → Answer → List ℕ
@@ -67,8 +69,8 @@ abbrev pub step_reported : ℕ → Stepped → Reported
 step_reported line t = record { position = record { state = t.state; lines = line }; text = printed (count t.state) line t.outcome }
 
 -- one line: lines are numbered from 1
-abbrev pub line_reported : Position → Line → Reported
-line_reported p l = step_reported (p.lines + 1) (line_step p.state l)
+abbrev pub line_reported : Position → Result Line Refusal → Reported
+line_reported p asked = step_reported (p.lines + 1) (line_step p.state asked)
 
 -- the same with this text before it
 abbrev pub after : List ℕ → Reported → Reported

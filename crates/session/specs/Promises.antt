@@ -1,15 +1,11 @@
 -- What the functions of a session promise.
 -- Assumes nothing.
-use Rattle.std.specs.Prelude.{ℕ, ◌+◌, ◌*◌, ◌≤◌, ◌<◌, ◌≡◌, Bool, true, false, not, ◌&&◌, ◌||◌, List, leb, ltb, ℤ, length, take}
+use Rattle.std.specs.Prelude.{ℕ, ◌+◌, ◌*◌, ◌≤◌, ◌<◌, ◌≡◌, Bool, true, false, not, ◌&&◌, ◌||◌, List, leb, ltb, ℤ, length, take, Result, Ok, Err}
 use Rattle.std.proofs.Math.Seq.{slice}
-use Rattle.window.specs.declared.refusal.Verdict.{Verdict}
-use Rattle.window.specs.declared.refusal.Verdict.TheVariants as verdict
+use Rattle.window.specs.declared.refusal.Refusal.{Refusal}
 use Rattle.window.specs.Refusals.{answer_places}
 use Rattle.window.specs.Calls.{refused}
 use Rattle.window.specs.Model as model
-use Rattle.engine.specs.declared.calls.Answered.{Answered}
-use Rattle.engine.specs.declared.calls.Answered.TheVariants as answered
-use Rattle.engine.specs.declared.calls.Reply.{Reply}
 use Rattle.engine.specs.declared.state.State.{State}
 use Rattle.registry.specs.Records.{list_places, ListKept}
 use Rattle.board.specs.Tables.{Tables, tables_long, zeroed_tables, KeptBeyond, TablesKept}
@@ -21,32 +17,22 @@ use Rattle.parse.specs.declared.line.Line.{Line}
 use Rattle.parse.specs.Kept.{kept_length, kept_line}
 use Rattle.print.specs.Lines.{totals_room}
 use Rattle.print.specs.Put.{Put, PutSome}
-use Rattle.session.specs.declared.call.Called.{Called}
 use Rattle.session.specs.declared.stream.Session.{Session}
 use Rattle.session.specs.Meaning.{line_step, Position, line_reported, line_room}
 use Rattle.session.specs.Stream.{Running, Streamed, opened, fed_all, ended, begun}
 
 -- ---- one call
 
--- an accepted registration or withdrawal has no answers
-abbrev pub no_answers : Verdict → Answered
-no_answers verdict.Passed = answered.Answers 0
-no_answers (verdict.Refused r) = answered.Refused r
-
--- what a registration or a withdrawal came to
-abbrev pub without_answers : Reply → Called
-without_answers reply = record { outcome = no_answers reply.verdict; state = reply.state }
-
 -- the answers that a call gave stand in the answer table
-abbrev pub Within : Answered → List ℤ → Type 0
-Within (answered.Answers k) places = answer_places * k ≤ length places
-Within (answered.Refused r) places = Unit {0}
+abbrev pub Within : Result ℕ Refusal → List ℤ → Type 0
+Within (Ok k) places = answer_places * k ≤ length places
+Within (Err r) places = Unit {0}
 
 -- the call that a line asks of the engine, on m, came to o with these answer places, and left m'
-pub record CallEnsures (line : Line) (m : Machine) (o : Answered) (places : List ℤ) (m' : Machine) : Type 0 where
+pub record CallEnsures (asked : Result Line Refusal) (m : Machine) (o : Result ℕ Refusal) (places : List ℤ) (m' : Machine) : Type 0 where
   pub within : Within o places
-  pub agrees : (s : model.State) → Represents s m → reading_outcome o places ≡ (line_step s line).outcome
-  pub represents : (s : model.State) → Represents s m → Represents (line_step s line).state m'
+  pub agrees : (s : model.State) → Represents s m → reading_outcome o places ≡ (line_step s asked).outcome
+  pub represents : (s : model.State) → Represents s m → Represents (line_step s asked).state m'
   -- a refused line changes nothing
   pub unchanged : (k : ℕ) → reading_outcome o places ≡ refused k → m' ≡ m
   -- whatever m holds: no place beyond the query list's, and none beyond the first 4,096 of a table, is written
@@ -126,7 +112,7 @@ has_last s = leb s.lines line_limit && ltb 0 s.kept
 
 -- a line ends that asks this, on m and with so many lines before it: the session s is before the next line, and m' is
 -- what is left
-pub record LineEnsures (asked : Line) (m : Machine) (lines : ℕ) (old : List ℕ) (at : ℕ) (s : Session) (m' : Machine) (new : List ℕ) (next : ℕ) : Type 0 where
+pub record LineEnsures (asked : Result Line Refusal) (m : Machine) (lines : ℕ) (old : List ℕ) (at : ℕ) (s : Session) (m' : Machine) (new : List ℕ) (next : ℕ) : Type 0 where
   pub represents : (t : model.State) → Represents t m → Represents (line_step t asked).state m'
   pub text : (p : Position) → Represents p.state m → lines ≡ p.lines → Put old at (line_reported p asked).text new next
   -- a refused line changes nothing: state, query list and tables are equal

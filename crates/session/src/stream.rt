@@ -1,22 +1,23 @@
 // A session: it is opened on a lent query list and tables, fed its input in chunks, and finished.
-ghost use Rattle.std.specs.Prelude.{◌≡◌, List, ℕ, ◌+◌, ◌<◌, ◌≤◌, length};
-ghost use Rattle.board.specs.Tables.{tables};
+ghost use Rattle.std.specs.Prelude.{◌≡◌, false, List, ℕ, ◌+◌, ◌<◌, ◌≤◌, length};
+ghost use Rattle.board.specs.Lending.{lent_lists, shared_lists, SameSlices};
 ghost use Rattle.engine.specs.Machine.{machine};
+ghost use Rattle.engine.specs.Outcomes.{reading_state};
 ghost use Rattle.parse.specs.Kept.{kept_length};
-ghost use Rattle.print.specs.Lines.{totals_line, totals_room};
-ghost use Rattle.print.specs.Put.{Put};
 ghost use Rattle.session.specs.Meaning.{answer_table, line_room};
-ghost use Rattle.session.specs.Promises.{held, new_line, keeping, line_limit, has_last, goes_on, RefusesEnsures, lent, OpenEnsures, LineEnsures, RestEnsures, FeedEnsures, FinishEnsures};
+ghost use Rattle.session.specs.Promises.{held, new_line, line_limit, has_last, goes_on, refuses_all, finish_room, RefusesEnsures, lent, OpenEnsures, LineEnsures, RestEnsures, FeedEnsures, FinishEnsures};
 
-use crate::call::{Called, call};
-use crate::report::report_totals;
-use engine::calls::TotalsReply;
+use crate::call::call;
+use crate::report::{report, report_totals};
+use board::tables::{LentTables, SharedTables};
+use engine::calls::{Answered, start, totals};
 use engine::state::State;
 use parse::fields::find_byte;
 use parse::kept::{KEPT, asks, asks_with, keep};
 use parse::line::Line;
 use print::line::{ANSWER_ROOM, TOTALS_ROOM};
-use window::count::{Count, wide};
+use print::output::Output;
+use window::refusal::Refusal;
 
 // The places of the answer table: it is long enough for 32 answers.
 const ANSWER_TABLE: usize = 128;
@@ -51,13 +52,6 @@ pub struct Taken {
     pub at: usize,
 }
 
-// The session after a line, and the place in the output up to which it printed.
-#[derive(Clone, Copy)]
-pub struct Ended {
-    pub session: Session,
-    pub at: usize,
-}
-
 // A session before the first byte of a line.
 fn new_line(state: State, lines: u64) -> Session
     ensures { result ≡ new_line state lines }
@@ -69,30 +63,23 @@ fn new_line(state: State, lines: u64) -> Session
     }
 }
 
-// Opens a session: a fresh engine, and no line yet.
-pub fn open(
-    list: &mut [u32],
-    starts: &mut [Count],
-    sums: &mut [i64],
-    max_starts: &mut [Count],
-    max_values: &mut [i32],
-    min_starts: &mut [Count],
-    min_values: &mut [i32],
-) -> Session
-    ensures { (line : List ℕ) → OpenEnsures (lent list.old (tables starts.old sums.old max_starts.old max_values.old min_starts.old min_values.old))
-        (held result list.new line (tables starts.new sums.new max_starts.new max_values.new min_starts.new min_values.new)) }
+// The state after the call of a line: as it was, where it was refused.
+fn state_after(state: State, called: Result<Answered, Refusal>) -> State
+    ensures { result ≡ reading_state state called }
 {
-    let reply = engine::calls::start(
-        State::fresh(),
-        list,
-        starts,
-        sums,
-        max_starts,
-        max_values,
-        min_starts,
-        min_values,
-    );
-    new_line(reply.state, 0)
+    match called {
+        Ok(answered) => answered.state,
+        Err(_) => state,
+    }
+}
+
+// Opens a session: a fresh engine, and no line yet.
+pub fn open(list: &mut [u32], tables: &mut LentTables<'_>) -> Session
+    ensures same { SameSlices tables.old tables.new }
+    ensures opened { (line : List ℕ) → OpenEnsures (lent list.old (lent_lists tables.old)) (held result list.new line (lent_lists tables.new)) }
+{
+    let fresh = State::fresh();
+    new_line(start(list, tables).unwrap_or(fresh), 0)
 }
 
 impl Session {
@@ -105,164 +92,83 @@ impl Session {
 
     // Whether nothing is taken: there is no room for the bytes of a line, or the engine refuses every call on entry, by
     // checks 1 and 2, as totals has no other.
-    pub(crate) fn refuses(
-        self,
-        room: usize,
-        list: &[u32],
-        starts: &[Count],
-        sums: &[i64],
-        max_starts: &[Count],
-        max_values: &[i32],
-        min_starts: &[Count],
-        min_values: &[i32],
-    ) -> bool
-        ensures { RefusesEnsures (machine self.state list.now (tables starts.now sums.now max_starts.now max_values.now min_starts.now min_values.now)) room result }
+    pub(crate) fn refuses(self, room: usize, list: &[u32], tables: SharedTables<'_>) -> bool
+        ensures { RefusesEnsures (machine self.state list.now (shared_lists tables.entry)) room result }
     {
-        if room < KEPT {
-            return true;
-        }
-        match engine::calls::totals(
-            self.state, list, starts, sums, max_starts, max_values, min_starts, min_values,
-        ) {
-            TotalsReply::Totals(_, _, _, _) => false,
-            TotalsReply::Refused(_) => true,
-        }
+        room < KEPT || totals(self.state, list, tables).is_err()
     }
 }
 
-impl Called {
-    // The session after the call of this line, and the place in the output up to which it printed.
-    fn ended(self, lines: u64, at: usize) -> Ended
-        ensures { result ≡ record { session = new_line self.state lines; at = at } }
-    {
-        let session = new_line(self.state, lines);
-        Ended { session, at }
-    }
-}
-
-impl Taken {
-    // What was taken up to a place, with so many bytes kept of the current line.
-    fn longer(self, kept: usize, to: usize) -> Taken
-        ensures { result ≡ record { session = keeping self.session kept; to = to; at = self.at } }
-    {
-        let state = self.session.state;
-        let session = Session {
-            state,
-            lines: self.session.lines,
-            kept,
-        };
-        Taken {
-            session,
-            to,
-            at: self.at,
-        }
-    }
-
-    // Whether there is a byte to take, room for what the line that it may end prints, and a number for that line.
-    fn goes_on(self, size: usize, room: usize) -> bool
-        ensures { result ≡ goes_on self.to size self.at room self.session.lines }
-    {
-        goes_on(self.to, size, self.at, room, self.session.lines)
-    }
-}
-
-impl Ended {
-    // What was taken up to the end of the line, at this place.
-    fn taken(self, to: usize) -> Taken
-        ensures { result ≡ record { session = self.session; to = to; at = self.at } }
-    {
-        let session = self.session;
-        Taken {
-            session,
-            to,
-            at: self.at,
-        }
-    }
-
-    // The totals, behind what the line printed.
-    fn totals(self, out: &mut [u8]) -> usize
-        requires { self.at + totals_room ≤ length out.old }
-        ensures { (Put out.old self.at (totals_line self.session.state.count self.session.state.board.closed self.session.state.board.maxima.comparisons self.session.state.board.minima.comparisons) out.new result) × (result ≤ self.at + totals_room) }
-    {
-        report_totals(self.session.state, out, self.at)
-    }
-}
-
-// A line ends, after so many others: the call that it asks for is made, and what it prints is put into the output.
+// A line ends, after so many others: the call that it asks for is made, and what it prints is put into the output. What
+// is handed back is the session before the next line.
 pub(crate) fn end_line(
-    asked: Line,
+    asked: Result<Line, Refusal>,
     state: State,
     lines: u64,
     list: &mut [u32],
-    starts: &mut [Count],
-    sums: &mut [i64],
-    max_starts: &mut [Count],
-    max_values: &mut [i32],
-    min_starts: &mut [Count],
-    min_values: &mut [i32],
+    tables: &mut LentTables<'_>,
     answers: &mut [i64],
-    out: &mut [u8],
-    at: usize,
-) -> Ended
-    requires { (length answers.old ≡ answer_table) × ((at + line_room ≤ length out.old) × (lines ≤ line_limit)) }
-    ensures { LineEnsures asked
-        (machine state list.old (tables starts.old sums.old max_starts.old max_values.old min_starts.old min_values.old)) lines out.old at
-        result.session (machine result.session.state list.new (tables starts.new sums.new max_starts.new max_values.new min_starts.new min_values.new)) out.new result.at }
+    output: &mut Output<'_>,
+) -> Session
+    requires table { length answers.old ≡ answer_table }
+    requires room { output.old.at + line_room ≤ length output.old.bytes.now }
+    requires few { lines ≤ line_limit }
+    ensures same { SameSlices tables.old tables.new }
+    ensures same_slice { output.new.bytes.ghost_name ≡ output.old.bytes.ghost_name }
+    ensures ended { LineEnsures asked
+        (machine state list.old (lent_lists tables.old)) lines output.old.bytes.now output.old.at
+        result (machine result.state list.new (lent_lists tables.new)) output.new.bytes.now output.new.at }
 {
     let number = lines + 1;
-    let called = call(
-        state, list, starts, sums, max_starts, max_values, min_starts, min_values, answers, asked,
-    );
-    let n = wide(called.state.count);
-    let next = called.report(answers, n, number, out, at);
-    called.ended(number, next)
+    let called = call(state, list, tables, answers, asked);
+    let next = state_after(state, called);
+    report(called, answers, u64::from(next.count), number, output);
+    new_line(next, number)
 }
 
-// The rest of a line: the bytes of the chunk from the place up to which it was taken, up to the next byte 10, which
-// ends the line, or to the chunk's end.
+// The rest of a line: the bytes of the chunk from a place on, up to the next line end, or to the chunk's end. What is
+// handed back is the session after them, and the place up to which they were taken.
 pub(crate) fn rest_of_line(
-    taken: Taken,
+    session: Session,
     list: &mut [u32],
     line: &mut [u8],
-    starts: &mut [Count],
-    sums: &mut [i64],
-    max_starts: &mut [Count],
-    max_values: &mut [i32],
-    min_starts: &mut [Count],
-    min_values: &mut [i32],
+    tables: &mut LentTables<'_>,
     answers: &mut [i64],
     chunk: &[u8],
-    out: &mut [u8],
-) -> Taken
-    requires answers_len { (length answers.old ≡ answer_table) × ((taken.at + line_room ≤ length out.old) × (taken.session.lines < line_limit)) }
-    requires to_in_bounds { (taken.to < length chunk.now) × (kept_length ≤ length line.old) }
-    ensures { RestEnsures chunk.now taken.to
-        (held taken.session list.old line.old (tables starts.old sums.old max_starts.old max_values.old min_starts.old min_values.old)) out.old taken.at
-        (held result.session list.new line.new (tables starts.new sums.new max_starts.new max_values.new min_starts.new min_values.new)) result.to out.new result.at }
+    from: usize,
+    output: &mut Output<'_>,
+) -> (Session, usize)
+    requires table { length answers.old ≡ answer_table }
+    requires room { output.old.at + line_room ≤ length output.old.bytes.now }
+    requires few { session.lines < line_limit }
+    requires inside { from < length chunk.now }
+    requires line_room { kept_length ≤ length line.old }
+    ensures same { SameSlices tables.old tables.new }
+    ensures same_slice { output.new.bytes.ghost_name ≡ output.old.bytes.ghost_name }
+    ensures rest { RestEnsures chunk.now from
+        (held session list.old line.old (lent_lists tables.old)) output.old.bytes.now output.old.at
+        (held result.0 list.new line.new (lent_lists tables.new)) result.1 output.new.bytes.now output.new.at }
 {
-    let from = taken.to;
-    let kept = taken.session.kept;
-    let to = find_byte(chunk, from, 10);
-    if chunk.len() <= to {
-        return taken.longer(keep(line, kept, chunk, from, to), to);
+    let rest = &chunk[from..];
+    match find_byte(rest, b'\n') {
+        None => {
+            let kept = keep(line, session.kept, rest);
+            (Session { kept, ..session }, chunk.len())
+        }
+        Some(length) => {
+            let asked = asks_with(line, session.kept, &rest[..length]);
+            let next = end_line(
+                asked,
+                session.state,
+                session.lines,
+                list,
+                tables,
+                answers,
+                output,
+            );
+            (next, from + length + 1)
+        }
     }
-    let next = to + 1;
-    end_line(
-        asks_with(line, kept, chunk, from, to),
-        taken.session.state,
-        taken.session.lines,
-        list,
-        starts,
-        sums,
-        max_starts,
-        max_values,
-        min_starts,
-        min_values,
-        answers,
-        out,
-        taken.at,
-    )
-    .taken(next)
 }
 
 // Whether there is a byte to take, room for what the line that it may end prints, and a number for that line.
@@ -281,118 +187,128 @@ fn goes_on(to: usize, size: usize, at: usize, room: usize, lines: u64) -> bool
     lines < LINE_LIMIT
 }
 
+// Takes bytes of a chunk from a place on, a line after the other, where not all is refused, and puts what they print into
+// an empty output. What is handed back is the session after them, and the place up to which they were taken.
+fn feed_lines(
+    session: Session,
+    list: &mut [u32],
+    line: &mut [u8],
+    tables: &mut LentTables<'_>,
+    chunk: &[u8],
+    from: usize,
+    output: &mut Output<'_>,
+) -> (Session, usize)
+    requires open { refuses_all (machine session.state list.old (lent_lists tables.old)) (length line.old) ≡ false }
+    requires front { output.old.at ≡ 0 }
+    ensures same { SameSlices tables.old tables.new }
+    ensures same_slice { output.new.bytes.ghost_name ≡ output.old.bytes.ghost_name }
+    ensures fed { FeedEnsures chunk.now from
+        (held session list.old line.old (lent_lists tables.old)) output.old.bytes.now
+        (held result.0 list.new line.new (lent_lists tables.new)) result.1 output.new.bytes.now output.new.at }
+{
+    let mut answers = [0i64; ANSWER_TABLE];
+    let room = output.bytes.len();
+    let mut session = session;
+    let mut to = from;
+    while goes_on(to, chunk.len(), output.at, room, session.lines) {
+        (session, to) = rest_of_line(session, list, line, tables, &mut answers, chunk, to, output);
+    }
+    (session, to)
+}
+
 // Takes bytes of a chunk from a place on, and puts what they print at the front of the output. It takes them all but
 // where the output has no more room for what a line may print, or the lines have come to their limit; and none where
 // the query list, the slice for the line or a table is too short or the list is damaged. Where it takes none, nothing
 // changes.
+#[tactic(auto, using(crate::proofs::Refusing::open_where))]
 pub fn feed(
     session: Session,
     list: &mut [u32],
     line: &mut [u8],
-    starts: &mut [Count],
-    sums: &mut [i64],
-    max_starts: &mut [Count],
-    max_values: &mut [i32],
-    min_starts: &mut [Count],
-    min_values: &mut [i32],
+    tables: &mut LentTables<'_>,
     chunk: &[u8],
     from: usize,
     out: &mut [u8],
 ) -> Taken
-    ensures { FeedEnsures chunk.now from
-        (held session list.old line.old (tables starts.old sums.old max_starts.old max_values.old min_starts.old min_values.old)) out.old
-        (held result.session list.new line.new (tables starts.new sums.new max_starts.new max_values.new min_starts.new min_values.new)) result.to out.new result.at }
+    ensures same { SameSlices tables.old tables.new }
+    ensures fed { FeedEnsures chunk.now from
+        (held session list.old line.old (lent_lists tables.old)) out.old
+        (held result.session list.new line.new (lent_lists tables.new)) result.to out.new result.at }
 {
-    let mut taken = Taken {
+    if session.refuses(line.len(), list, tables.shared()) {
+        return Taken {
+            session,
+            to: from,
+            at: 0,
+        };
+    }
+    let mut output = Output { bytes: out, at: 0 };
+    let (session, to) = feed_lines(session, list, line, tables, chunk, from, &mut output);
+    Taken {
         session,
-        to: from,
-        at: 0,
-    };
-    if session.refuses(
-        line.len(),
-        list,
-        starts,
-        sums,
-        max_starts,
-        max_values,
-        min_starts,
-        min_values,
-    ) {
-        return taken;
+        to,
+        at: output.at,
+    }
+}
+
+// The end of the input, where not all is refused: what a last line prints, and the totals, are put into an empty output.
+fn finish_lines(
+    session: Session,
+    list: &mut [u32],
+    line: &[u8],
+    tables: &mut LentTables<'_>,
+    output: &mut Output<'_>,
+)
+    requires open { refuses_all (machine session.state list.old (lent_lists tables.old)) (length line.now) ≡ false }
+    requires front { output.old.at ≡ 0 }
+    requires room { finish_room ≤ length output.old.bytes.now }
+    ensures same { SameSlices tables.old tables.new }
+    ensures same_slice { output.new.bytes.ghost_name ≡ output.old.bytes.ghost_name }
+    ensures finished { FinishEnsures
+        (held session list.old line.now (lent_lists tables.old)) output.old.bytes.now
+        (lent list.new (lent_lists tables.new)) output.new.bytes.now output.new.at }
+{
+    if !session.has_last() {
+        report_totals(session.state, output);
+        return;
     }
     let mut answers = [0i64; ANSWER_TABLE];
-    while taken.goes_on(chunk.len(), out.len()) {
-        taken = rest_of_line(
-            taken,
-            list,
-            line,
-            starts,
-            sums,
-            max_starts,
-            max_values,
-            min_starts,
-            min_values,
-            &mut answers,
-            chunk,
-            out,
-        );
-    }
-    taken
+    let last = end_line(
+        asks(line, session.kept),
+        session.state,
+        session.lines,
+        list,
+        tables,
+        &mut answers,
+        output,
+    );
+    report_totals(last.state, output);
 }
 
 // The end of the input: what a last line that has a byte prints, and the totals, at the front of the output. Nothing is
 // printed and nothing changes where the output has no room for them, the query list, the slice for the line or a table
 // is too short or the list is damaged. A last line that no number is left for, which no session from `open` on has,
 // prints nothing.
+#[tactic(auto, using(crate::proofs::Refusing::open_where))]
 pub fn finish(
     session: Session,
     list: &mut [u32],
     line: &[u8],
-    starts: &mut [Count],
-    sums: &mut [i64],
-    max_starts: &mut [Count],
-    max_values: &mut [i32],
-    min_starts: &mut [Count],
-    min_values: &mut [i32],
+    tables: &mut LentTables<'_>,
     out: &mut [u8],
 ) -> usize
-    ensures { FinishEnsures
-        (held session list.old line.now (tables starts.old sums.old max_starts.old max_values.old min_starts.old min_values.old)) out.old
-        (lent list.new (tables starts.new sums.new max_starts.new max_values.new min_starts.new min_values.new)) out.new result }
+    ensures same { SameSlices tables.old tables.new }
+    ensures finished { FinishEnsures
+        (held session list.old line.now (lent_lists tables.old)) out.old
+        (lent list.new (lent_lists tables.new)) out.new result }
 {
     if out.len() < FINISH_ROOM {
         return 0;
     }
-    if session.refuses(
-        line.len(),
-        list,
-        starts,
-        sums,
-        max_starts,
-        max_values,
-        min_starts,
-        min_values,
-    ) {
+    if session.refuses(line.len(), list, tables.shared()) {
         return 0;
     }
-    let mut answers = [0i64; ANSWER_TABLE];
-    if session.has_last() {
-        let ended = end_line(
-            asks(line, session.kept),
-            session.state,
-            session.lines,
-            list,
-            starts,
-            sums,
-            max_starts,
-            max_values,
-            min_starts,
-            min_values,
-            &mut answers,
-            out,
-            0,
-        );
-        return ended.totals(out);
-    }
-    report_totals(session.state, out, 0)
+    let mut output = Output { bytes: out, at: 0 };
+    finish_lines(session, list, line, tables, &mut output);
+    output.at
 }

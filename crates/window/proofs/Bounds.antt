@@ -4,13 +4,14 @@ use mathlib.Core.Path.{◌≡◌, refl, subst}
 use mathlib.Core.Bool.{false, ◌||◌}
 use mathlib.Core.Option.{Option, none, some}
 use mathlib.Core.List.{List, [], ◌∷◌}
-use Prim.Native.Nat.{ℕ, ◌+◌, ◌*◌, ◌-◌, ◌≤◌, ◌<◌, zero-le}
+use Prim.Native.Nat.{ℕ, ◌+◌, ◌*◌, ◌≤◌, ◌<◌}
 use native.Mathlib.Nat.{not-suc-le-zero}
 use native.Mathlib.Omega.{arith}
 use lib.Dec.{ltb}
 use lib.IntN.{ℤ, ◌+ℤ◌}
 use lib.ListN.{length}
 use borrow.Author.Tests.{le-ltb}
+use Rattle.std.proofs.lemmas.Int.{ints}
 use Rattle.ints.specs.Sizes.{Small}
 use Rattle.ints.proofs.Sizes.{small-more, small_add, small-reading}
 use Rattle.window.specs.declared.query.Query.{Query}
@@ -111,7 +112,7 @@ reached_bounded cs = bounded (reached cs) (reached-invariant cs)
 
 -- the sum of k readings is at most k * 2^31 in size
 pub sum_bound : (xs : List ℤ) → Each IsReading xs → Small (length xs * 2147483648) (sum xs)
-sum_bound [] h = record { above = zero-le; below = zero-le }
+sum_bound [] h = record { above = omega (arith, ints); below = omega (arith, ints) }
 sum_bound (x ∷ []) h = small-more 2147483648 _ x (omega arith) (small-reading x h.0)
 sum_bound (x ∷ y ∷ ys) h =
     small-more _ _ (x +ℤ sum (y ∷ ys)) (omega arith)

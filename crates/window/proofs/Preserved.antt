@@ -1,5 +1,6 @@
 -- The invariant holds after every list of calls from a start.
 -- Assumes nothing.
+use Rattle.std.specs.Prelude.{Ok, Err}
 use mathlib.Core.Path.{◌≡◌, refl, sym, subst}
 use mathlib.Core.Bool.{Bool, true, false, not, cond}
 use mathlib.Core.Option.{Option, none, some}
@@ -12,12 +13,10 @@ use lib.IntN.{ℤ}
 use lib.ListN.{length, length-append}
 use borrow.Author.Tests.{ltb-true, ltb-false, eqb-false, ne_eqb}
 use Rattle.window.specs.declared.query.Query.{Query}
-use Rattle.window.specs.declared.refusal.Verdict.{Verdict}
-use Rattle.window.specs.declared.refusal.Verdict.TheVariants.{Passed, Refused}
 use Rattle.window.specs.Lists.{filter, any, Each}
 use Rattle.window.specs.Queries.{Limits, length_limit, count_limit, edge, horizon}
 use Rattle.window.specs.Partials.{Partial, spanning}
-use Rattle.window.specs.Refusals.{first_refusal, register_checks, withdraw_checks, reading_checks, has_number, is_registered}
+use Rattle.window.specs.Refusals.{Verdict, first_refusal, register_checks, withdraw_checks, reading_checks, has_number, is_registered}
 use Rattle.window.specs.Calls.{Call, start, register, withdraw, reading, totals}
 use Rattle.window.specs.Model.{State, count, initial, standing_at, closing_comparisons, close_at, close_where, holds_reading, with_query, after_register, open_if_any, after_withdraw, reading_taken, close_at_edge, after_reading, Stepped, answered, totals_of, judged, new_query, step, step_at, run, reached}
 use Rattle.window.specs.Invariant.{Ordered, Short, Tracked, Distinct, Shape, WithinLimits, Invariant}
@@ -204,9 +203,9 @@ withdraw-invariant s k i = record { shape = go s.open_start i.shape; within_limi
     go (some a) h = left a (filter keep s.queries) (each_filter (Tracked (count s) s.closed a) keep s.queries h.3) h.0 h.1
 
 -- a refused call changes nothing, so what holds of the state and of the accepted step holds of the judged one
-pub judged_keeps : (P : State → Type 0) (v : Verdict) (s : State) (t : Stepped) → P s → (v ≡ Passed → P t.state) → P (judged v s t).state
-judged_keeps P Passed s t h f = f refl
-judged_keeps P (Refused r) s t h f = h
+pub judged_keeps : (P : State → Type 0) (v : Verdict) (s : State) (t : Stepped) → P s → (v ≡ Ok tt → P t.state) → P (judged v s t).state
+judged_keeps P (Ok _) s t h f = f refl
+judged_keeps P (Err r) s t h f = h
 
 pub step-invariant : (s : State) (c : Call) → Invariant s → Invariant (step s c).state
 unfolding step_at answered totals_of

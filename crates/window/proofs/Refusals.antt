@@ -1,6 +1,7 @@
 -- The laws of the checks: what two runs of them come to, that the fields which pass are those within the limits, and
 -- what holds of a call that passes.
 -- Assumes nothing.
+use Rattle.std.specs.Prelude.{Ok, Err}
 use mathlib.Core.Path.{◌≡◌, refl, sym, ap, subst}
 use mathlib.Core.Bool.{Bool, true, false, ◌||◌, cond}
 use mathlib.Core.List.{List, [], ◌∷◌, ◌++◌}
@@ -12,11 +13,9 @@ use borrow.Author.Tests.{leb-true, leb-false, le-leb, ltb-false, not-false}
 use Rattle.window.specs.declared.query.Query.{Query}
 use Rattle.window.specs.declared.refusal.Refusal.{Refusal}
 use Rattle.window.specs.declared.refusal.Refusal.TheVariants.{TableTooShort}
-use Rattle.window.specs.declared.refusal.Verdict.{Verdict}
-use Rattle.window.specs.declared.refusal.Verdict.TheVariants.{Passed, Refused}
 use Rattle.window.specs.Lists.{any, Each}
 use Rattle.window.specs.Queries.{Limits, number_limit, kind_limit, length_limit, query_limit, count_limit}
-use Rattle.window.specs.Refusals.{Check, first_refusal, within, applying, is_registered, due_at, answer_places, name_checks, length_checks, field_checks, list_checks, register_checks, count_checks, places_checks, reading_checks, reading_checks_at}
+use Rattle.window.specs.Refusals.{Verdict, Check, first_refusal, within, applying, is_registered, due_at, answer_places, name_checks, length_checks, field_checks, list_checks, register_checks, count_checks, places_checks, reading_checks, reading_checks_at}
 use Rattle.window.proofs.Lists.{and_left, and_right, or_neither, not_left, not_right}
 
 -- a check of the list does not apply
@@ -24,51 +23,51 @@ abbrev NotApplying : Check → Type 0
 NotApplying c = c.applies ≡ false
 
 -- no verdict refuses and passes
-pub refused_passed : {X : Type 0} (r : Refusal) → Refused r ≡ Passed → X
+pub refused_passed : {X : Type 0} (r : Refusal) → ◌≡◌ {A = Verdict} (Err r) (Ok tt) → X
 refused_passed r e = let z : ◌≡◌ {A = ℕ} 0 1 = cc in absurd (omega arith)
 
 -- the refusal that a verdict gives
 abbrev refusal_in : Verdict → Refusal
-refusal_in Passed = TableTooShort
-refusal_in (Refused r) = r
+refusal_in (Ok _) = TableTooShort
+refusal_in (Err r) = r
 
-pub refused-same : (r r' : Refusal) → Refused r ≡ Refused r' → r ≡ r'
+pub refused-same : (r r' : Refusal) → ◌≡◌ {A = Verdict} (Err r) (Err r') → r ≡ r'
 refused-same r r' e = ap refusal_in e
 
 -- what holds of every check's refusal holds of the one that is given
-pub refusal_each : (P : Refusal → Type 0) (cs : List Check) → Each (λ (c : Check). P c.refusal) cs → (r : Refusal) → first_refusal cs ≡ Refused r → P r
+pub refusal_each : (P : Refusal → Type 0) (cs : List Check) → Each (λ (c : Check). P c.refusal) cs → (r : Refusal) → first_refusal cs ≡ Err r → P r
 refusal_each P [] h r e = refused_passed r (sym e)
 refusal_each P (c ∷ cs) h r e = go c.applies e (λ k. refusal_each P cs h.1 r k)
   where
-    go : (b : Bool) → cond b (Refused c.refusal) (first_refusal cs) ≡ Refused r → (first_refusal cs ≡ Refused r → P r) → P r
+    go : (b : Bool) → cond b (Err c.refusal) (first_refusal cs) ≡ Err r → (first_refusal cs ≡ Err r → P r) → P r
     go true k later = subst P (refused-same c.refusal r k) h.0
     go false k later = later k
 
 -- where the checks pass, none applies
-passed_each : (cs : List Check) → first_refusal cs ≡ Passed → Each NotApplying cs
+passed_each : (cs : List Check) → first_refusal cs ≡ Ok tt → Each NotApplying cs
 passed_each [] e = tt
 passed_each (c ∷ cs) e = go c.applies e (λ k. passed_each cs k)
   where
-    go : (b : Bool) → cond b (Refused c.refusal) (first_refusal cs) ≡ Passed → (first_refusal cs ≡ Passed → Each NotApplying cs) → (b ≡ false) × Each NotApplying cs
+    go : (b : Bool) → cond b (Err c.refusal) (first_refusal cs) ≡ Ok tt → (first_refusal cs ≡ Ok tt → Each NotApplying cs) → (b ≡ false) × Each NotApplying cs
     go true k ih = refused_passed c.refusal k
     go false k ih = (refl, ih k)
 
 -- the checks pass exactly where none applies, and refuse where some does, as `any` tests it
-pub passed_any : (cs : List Check) → first_refusal cs ≡ Passed → any applying cs ≡ false
+pub passed_any : (cs : List Check) → first_refusal cs ≡ Ok tt → any applying cs ≡ false
 passed_any [] e = refl
 passed_any (c ∷ cs) e =
     let a = passed_each (c ∷ cs) e in
     or_neither c.applies (any applying cs) a.0 (passed_any cs (rw a.0 at e))
 
-pub any_passed : (cs : List Check) → any applying cs ≡ false → first_refusal cs ≡ Passed
+pub any_passed : (cs : List Check) → any applying cs ≡ false → first_refusal cs ≡ Ok tt
 any_passed [] e = refl
 any_passed (c ∷ cs) e = rw (not_left c.applies (any applying cs) e) (any_passed cs (not_right c.applies (any applying cs) e))
 
-pub refused-any : (cs : List Check) (r : Refusal) → first_refusal cs ≡ Refused r → any applying cs ≡ true
+pub refused-any : (cs : List Check) (r : Refusal) → first_refusal cs ≡ Err r → any applying cs ≡ true
 refused-any [] r e = refused_passed r (sym e)
 refused-any (c ∷ cs) r e = go c.applies e (λ k. refused-any cs r k)
   where
-    go : (b : Bool) → cond b (Refused c.refusal) (first_refusal cs) ≡ Refused r → (first_refusal cs ≡ Refused r → any applying cs ≡ true)
+    go : (b : Bool) → cond b (Err c.refusal) (first_refusal cs) ≡ Err r → (first_refusal cs ≡ Err r → any applying cs ≡ true)
         → (b || any applying cs) ≡ true
     go true k ih = refl
     go false k ih = ih k
@@ -81,12 +80,12 @@ passed_then [] ds e = refl
 passed_then (c ∷ cs) ds e = rw (not_left c.applies (any applying cs) e) (passed_then cs ds (not_right c.applies (any applying cs) e))
 
 -- where the first refuses, that decides
-pub refused_then : (cs ds : List Check) (r : Refusal) → first_refusal cs ≡ Refused r → first_refusal (cs ++ ds) ≡ Refused r
+pub refused_then : (cs ds : List Check) (r : Refusal) → first_refusal cs ≡ Err r → first_refusal (cs ++ ds) ≡ Err r
 refused_then [] ds r e = refused_passed r (sym e)
 refused_then (c ∷ cs) ds r e = go c.applies e (refused_then cs ds r)
   where
-    go : (b : Bool) → cond b (Refused c.refusal) (first_refusal cs) ≡ Refused r → (first_refusal cs ≡ Refused r → first_refusal (cs ++ ds) ≡ Refused r)
-        → cond b (Refused c.refusal) (first_refusal (cs ++ ds)) ≡ Refused r
+    go : (b : Bool) → cond b (Err c.refusal) (first_refusal cs) ≡ Err r → (first_refusal cs ≡ Err r → first_refusal (cs ++ ds) ≡ Err r)
+        → cond b (Err c.refusal) (first_refusal (cs ++ ds)) ≡ Err r
     go true k ih = k
     go false k ih = ih k
 
@@ -121,7 +120,7 @@ fields_within q a =
     }
 
 -- the checks of the fields, and so `check_fields`, pass exactly the fields within the limits
-pub fields_passed : (q : Query) → first_refusal (field_checks q.number q.kind q.range q.slide) ≡ Passed → Limits q
+pub fields_passed : (q : Query) → first_refusal (field_checks q.number q.kind q.range q.slide) ≡ Ok tt → Limits q
 fields_passed q e = fields_within q (passed_each (field_checks q.number q.kind q.range q.slide) e)
 
 pub limits-any : (q : Query) → Limits q → any applying (field_checks q.number q.kind q.range q.slide) ≡ false
@@ -142,7 +141,7 @@ pub record Joins (qs : List Query) (q : Query) : Type 0 where
   pub new : is_registered q.number qs ≡ false
   pub room : length qs < query_limit
 
-pub register_passed : (qs : List Query) (q : Query) → first_refusal (register_checks qs q.number q.kind q.range q.slide) ≡ Passed → Joins qs q
+pub register_passed : (qs : List Query) (q : Query) → first_refusal (register_checks qs q.number q.kind q.range q.slide) ≡ Ok tt → Joins qs q
 unfolding register_checks name_checks length_checks field_checks list_checks
 register_passed qs q e =
     let a = passed_each (register_checks qs q.number q.kind q.range q.slide) e in
@@ -153,7 +152,7 @@ register_passed qs q e =
     }
 
 -- a count that passes is below the limit
-pub count_passed : (limit n : ℕ) → first_refusal (count_checks limit n) ≡ Passed → n < limit
+pub count_passed : (limit n : ℕ) → first_refusal (count_checks limit n) ≡ Ok tt → n < limit
 unfolding count_checks
 count_passed limit n e = leb-false limit n (passed_each (count_checks limit n) e).0
 
@@ -162,7 +161,7 @@ pub record Counts (n : ℕ) (qs : List Query) (places : ℕ) : Type 0 where
   pub room : n < count_limit
   pub answers_fit : answer_places * length (due_at (n + 1) qs) ≤ places
 
-pub reading_passed : (n : ℕ) (qs : List Query) (places : ℕ) → first_refusal (reading_checks n qs places) ≡ Passed → Counts n qs places
+pub reading_passed : (n : ℕ) (qs : List Query) (places : ℕ) → first_refusal (reading_checks n qs places) ≡ Ok tt → Counts n qs places
 unfolding count_checks places_checks reading_checks_at
 reading_passed n qs places e =
     let a = passed_each (reading_checks n qs places) e in

@@ -1,6 +1,7 @@
 -- What a call does to the model beside keeping its invariant: a refused call changes nothing, the horizon never falls
 -- (I7), and the readings are those of the accepted readings.
 -- Assumes nothing.
+use Rattle.std.specs.Prelude.{Ok, Err}
 use mathlib.Core.Path.{◌≡◌, refl, sym, ap, ◌∙◌, subst}
 use mathlib.Core.Bool.{Bool, true, false, not}
 use mathlib.Core.Option.{Option, none, some}
@@ -12,11 +13,9 @@ use lib.IntN.{ℤ}
 use lib.ListN.{length, length-append}
 use Rattle.window.specs.declared.query.Query.{Query}
 use Rattle.window.specs.declared.refusal.Refusal.{Refusal}
-use Rattle.window.specs.declared.refusal.Verdict.{Verdict}
-use Rattle.window.specs.declared.refusal.Verdict.TheVariants.{Passed, Refused}
 use Rattle.window.specs.Lists.{any, Each}
 use Rattle.window.specs.Queries.{edge, horizon}
-use Rattle.window.specs.Refusals.{refusal_number, first_refusal, name_checks, length_checks, field_checks, list_checks, register_checks, withdraw_checks, count_checks, places_checks, reading_checks, reading_checks_at, has_number}
+use Rattle.window.specs.Refusals.{Verdict, refusal_number, first_refusal, name_checks, length_checks, field_checks, list_checks, register_checks, withdraw_checks, count_checks, places_checks, reading_checks, reading_checks_at, has_number}
 use Rattle.window.specs.Calls.{Call, start, register, withdraw, reading, totals, OfReading, Answer, Outcome, accepted, refused}
 use Rattle.window.specs.Model.{State, count, close_at, close_where, holds_reading, with_query, after_register, after_withdraw, reading_taken, close_at_edge, after_reading, Stepped, answers, answered, totals_of, judged, new_query, step, step_at}
 use Rattle.window.proofs.Lists.{each_append}
@@ -39,8 +38,8 @@ accepted-refused ns bs k e = let z : ◌≡◌ {A = ℕ} 0 1 = cc in absurd (ome
 
 judged-refused : (v : Verdict) (s : State) (t : Stepped) (ns : List ℕ) (bs : List Answer) (k : ℕ) → t.outcome ≡ accepted ns bs
     → (judged v s t).outcome ≡ refused k → (judged v s t).state ≡ s
-judged-refused Passed s t ns bs k a e = accepted-refused ns bs k (sym a ∙ e)
-judged-refused (Refused r) s t ns bs k a e = refl
+judged-refused (Ok _) s t ns bs k a e = accepted-refused ns bs k (sym a ∙ e)
+judged-refused (Err r) s t ns bs k a e = refl
 
 pub refused-unchanged : (s : State) (c : Call) (k : ℕ) → (step s c).outcome ≡ refused k → (step s c).state ≡ s
 unfolding step_at answered totals_of
@@ -56,10 +55,10 @@ refused-unchanged s totals k e = refl
 
 -- ---- which refusals the model gives
 
-judged-number : (v : Verdict) (s : State) (t : Stepped) (ns : List ℕ) (bs : List Answer) (k : ℕ) → t.outcome ≡ accepted ns bs → ((r : Refusal) → v ≡ Refused r → 3 ≤ refusal_number r)
+judged-number : (v : Verdict) (s : State) (t : Stepped) (ns : List ℕ) (bs : List Answer) (k : ℕ) → t.outcome ≡ accepted ns bs → ((r : Refusal) → v ≡ Err r → 3 ≤ refusal_number r)
     → (judged v s t).outcome ≡ refused k → 3 ≤ k
-judged-number Passed s t ns bs k a h e = accepted-refused ns bs k (sym a ∙ e)
-judged-number (Refused r) s t ns bs k a h e = subst (λ (n : ℕ). 3 ≤ n) (ap number_of e) (h r refl)
+judged-number (Ok _) s t ns bs k a h e = accepted-refused ns bs k (sym a ∙ e)
+judged-number (Err r) s t ns bs k a h e = subst (λ (n : ℕ). 3 ≤ n) (ap number_of e) (h r refl)
 
 -- none but 3 to 11: 1 and 2 are judged on tables and a state that it does not have
 pub refused_from_three : (s : State) (c : Call) (k : ℕ) → (step s c).outcome ≡ refused k → 3 ≤ k

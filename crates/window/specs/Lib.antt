@@ -4,6 +4,7 @@ pub mod Queries
 pub mod Partials
 pub mod Standing
 pub mod Refusals
+pub mod Kinds
 pub mod Calls
 pub mod Model
 pub mod Cases

@@ -1,17 +1,15 @@
 -- The reference model (document 01: the bench reckoner). It keeps every reading and evaluates each window anew.
 -- Assumes nothing.
-use Rattle.std.specs.Prelude.{ℕ, ◌+◌, Bool, false, not, cond, List, [], ◌∷◌, ◌++◌, map, ltb, eqb, ℤ, pos, length}
+use Rattle.std.specs.Prelude.{ℕ, ◌+◌, Bool, false, not, cond, List, [], ◌∷◌, ◌++◌, map, ltb, eqb, ℤ, pos, length, Ok, Err}
 use Rattle.std.proofs.Math.Option.{Option, none, some}
 use Rattle.std.specs.Int.Signed.{le_z}
 use Rattle.window.specs.declared.query.Query.{Query}
-use Rattle.window.specs.declared.refusal.Verdict.{Verdict}
-use Rattle.window.specs.declared.refusal.Verdict.TheVariants.{Passed, Refused}
 use Rattle.window.specs.Lists.{filter, any}
 use Rattle.window.specs.Orders.{ge_z, sum, extreme, maximum, minimum}
 use Rattle.window.specs.Queries.{count_limit, sum_kind, count_kind, maximum_kind, edge, window_start, horizon}
 use Rattle.window.specs.Partials.{Partial, spanning, Entry, between, entry, entries, partials_from}
 use Rattle.window.specs.Standing.{standing, comparisons}
-use Rattle.window.specs.Refusals.{refusal_number, first_refusal, register_checks, withdraw_checks, reading_checks_at, has_number, due_at}
+use Rattle.window.specs.Refusals.{Verdict, refusal_number, first_refusal, register_checks, withdraw_checks, reading_checks_at, has_number, due_at}
 use Rattle.window.specs.Calls.{Call, start, register, withdraw, reading, totals, Answer, Outcome, accepted, refused}
 
 -- ---- the state
@@ -161,8 +159,8 @@ totals_of s =
 
 -- a refused call returns its number and hands the state back equal
 abbrev pub judged : Verdict → State → Stepped → Stepped
-judged Passed s t = t
-judged (Refused r) s t = record { state = s; outcome = refused (refusal_number r) }
+judged (Ok _) s t = t
+judged (Err r) s t = record { state = s; outcome = refused (refusal_number r) }
 
 -- the query that a registration brings, with g = n
 abbrev pub new_query : State → (number kind range slide : ℕ) → Query

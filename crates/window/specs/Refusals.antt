@@ -1,12 +1,10 @@
 -- Refusals: document 01's number for each, and the order of the checks ("The calls and where each refuses"). The cases
--- and the verdict are the code's enums `Refusal` and `Verdict`.
+-- are the code's enum `Refusal`.
 -- Assumes nothing.
-use Rattle.std.specs.Prelude.{ℕ, ◌+◌, ◌*◌, Bool, false, not, ◌&&◌, ◌||◌, cond, List, [], ◌∷◌, ◌++◌, leb, ltb, eqb, length}
+use Rattle.std.specs.Prelude.{ℕ, ◌+◌, ◌*◌, Bool, false, not, ◌&&◌, ◌||◌, cond, List, [], ◌∷◌, ◌++◌, leb, ltb, eqb, length, Result, Ok, Err}
 use Rattle.window.specs.declared.query.Query.{Query}
 use Rattle.window.specs.declared.refusal.Refusal.{Refusal}
 use Rattle.window.specs.declared.refusal.Refusal.TheVariants.{TableTooShort, Damaged, NumberOutside, KindOutside, RangeOutside, SlideOutside, NumberTaken, ListFull, NotRegistered, CountExhausted, AnswersTooShort, LineTooLong, UnknownLine, NotANumber, OutsideWidth}
-use Rattle.window.specs.declared.refusal.Verdict.{Verdict}
-use Rattle.window.specs.declared.refusal.Verdict.TheVariants.{Passed, Refused}
 use Rattle.window.specs.Lists.{filter, any}
 use Rattle.window.specs.Queries.{number_limit, kind_limit, length_limit, query_limit, count_limit, due}
 
@@ -41,10 +39,14 @@ applying c = c.applies
 abbrev pub check : Bool → Refusal → Check
 check condition refusal = record { applies = condition; refusal = refusal }
 
+-- what a run of checks comes to: none applies, or the refusal of the first that does
+abbrev pub Verdict : Type 0
+Verdict = Result (Unit {0}) Refusal
+
 -- checks go from top to bottom; the first that applies decides
 abbrev pub first_refusal : List Check → Verdict
-first_refusal [] = Passed
-first_refusal (c ∷ cs) = cond c.applies (Refused c.refusal) (first_refusal cs)
+first_refusal [] = Ok tt
+first_refusal (c ∷ cs) = cond c.applies (Err c.refusal) (first_refusal cs)
 
 -- x is low to high
 abbrev pub within : ℕ → ℕ → ℕ → Bool

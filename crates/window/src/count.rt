@@ -1,4 +1,4 @@
-// A count of readings, and the only casts between counts and other unsigned widths.
+// A count of readings. To a count and to 64 bits `From` leads; to the two widths here it does not.
 ghost use Rattle.std.specs.Prelude.{◌≡◌, ◌<◌, ◌^◌};
 
 // A count of readings since the start: document 01's n, and every place that is measured by it.
@@ -6,20 +6,6 @@ pub type Count = u32;
 
 // The greatest count of readings.
 pub const COUNT_LIMIT: Count = 4_294_967_295;
-
-// A number of 32 bits as a count.
-pub fn count_of(x: u32) -> Count
-    ensures { result ≡ x }
-{
-    x as Count
-}
-
-// A count as a number of 64 bits.
-pub fn wide(n: Count) -> u64
-    ensures { result ≡ n }
-{
-    n as u64
-}
 
 // A count as a number of places.
 pub fn size(n: Count) -> usize

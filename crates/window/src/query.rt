@@ -1,8 +1,10 @@
 // A query, and what it means at a count of readings (document 01, "What a query means" and "Where partials are cut").
 ghost use Rattle.std.specs.Prelude.{◌≡◌, ◌≤◌};
 ghost use Rattle.window.specs.Queries.{Limits, phase, due, edge, window_start, window_count};
+ghost use Rattle.window.specs.Kinds.{KindOf};
 
-use crate::count::{Count, count_of, narrow};
+use crate::count::{Count, narrow};
+use crate::refusal::Refusal;
 
 // The greatest query number, the number of kinds, and the greatest range and slide.
 pub const NUMBER_LIMIT: u32 = 65_535;
@@ -11,7 +13,33 @@ pub const KIND_LIMIT: u32 = 4;
 
 pub const LENGTH_LIMIT: u32 = 4_096;
 
-#[derive(Clone, Copy)]
+// What a query asks of its windows, with the document's number.
+#[derive(Clone, Copy, Debug, PartialEq, Eq)]
+pub enum Kind {
+    Sum = 1,
+    Count = 2,
+    Maximum = 3,
+    Minimum = 4,
+}
+
+// The kind of a number. Check 4 refuses every other number.
+impl TryFrom<u32> for Kind {
+    type Error = Refusal;
+
+    ghost try_from_gives = { KindOf };
+
+    fn try_from(number: u32) -> Result<Kind, Refusal> {
+        match number {
+            1 => Ok(Kind::Sum),
+            2 => Ok(Kind::Count),
+            3 => Ok(Kind::Maximum),
+            4 => Ok(Kind::Minimum),
+            _ => Err(Refusal::KindOutside),
+        }
+    }
+}
+
+#[derive(Clone, Copy, Debug, Default, PartialEq, Eq)]
 pub struct Query {
     // Chosen by the caller, 1 to 65,535.
     pub number: u32,
@@ -40,10 +68,7 @@ impl Query {
         requires { Limits self }
         ensures { result ≡ due n self }
     {
-        if n <= self.origin {
-            return false;
-        }
-        self.phase(n) % count_of(self.slide) == 0
+        self.origin < n && self.phase(n) % Count::from(self.slide) == 0
     }
 
     // Whether a window of the query can end or begin at m (document 01: the query cuts at m). The phase is reduced
@@ -55,28 +80,19 @@ impl Query {
         if m <= self.origin {
             return false;
         }
-        let slide = count_of(self.slide);
+        let slide = Count::from(self.slide);
         let rest = self.phase(m) % slide;
         if rest == 0 {
             return true;
         }
-        (rest + count_of(self.range)) % slide == 0
+        (rest + Count::from(self.range)) % slide == 0
     }
 
     // The window at n holds the readings after this place.
     pub fn window_start(self, n: Count) -> Count
         ensures { result ≡ window_start n self }
     {
-        let range = count_of(self.range);
-        if n <= range {
-            return self.origin;
-        }
-        let back = n - range;
-        if back <= self.origin {
-            self.origin
-        } else {
-            back
-        }
+        self.origin.max(n.saturating_sub(Count::from(self.range)))
     }
 
     // How many readings the window at n holds: a number of 32 bits, whatever the width of a count.
@@ -85,10 +101,6 @@ impl Query {
         ensures { result ≡ window_count n self }
     {
         let since = n - self.origin;
-        if since < count_of(self.range) {
-            narrow(since)
-        } else {
-            self.range
-        }
+        narrow(since.min(Count::from(self.range)))
     }
 }

@@ -1,23 +1,28 @@
 -- `judge_reading`: checks 1 and 2, and then 10 and 11. Assumes nothing.
-use Rattle.window.specs.declared.refusal.Verdict.TheVariants.{Passed}
+use Rattle.std.proofs.Common.{refl, ap, ◌∙◌, List}
+use Rattle.std.proofs.lemmas.Result.{err_from_is_err_and}
+use Rattle.window.specs.declared.query.Query.{Query}
 use Rattle.window.specs.Refusals.{first_refusal, reading_checks}
-use Rattle.registry.specs.Records.{used}
-use Rattle.registry.proofs.Intact.{fits-few, fits-limits}
-use Rattle.engine.proofs.Judging.{judged-first, judged_passed, judged-last}
+use Rattle.engine.proofs.Judging.{judged-first, judged-last, held_is}
 use Rattle.engine.proofs.checks.judge_reading.Goals as goal
 
-pub returns-in-Refused : goal.returns-in-Refused
-returns-in-Refused c =
-    let a = c.args in
-    judged-first a.long a.state a.list.now _ _ _ c.judge_entry.ensures c.in-Refused.is
+pub returns-in_err-checked-clause-judged : goal.returns-in_err-checked-clause-judged
+returns-in_err-checked-clause-judged c =
+    let p = err_from_is_err_and c.from_residual.result c.from_residual.ensures.1 in
+    rw (p.1, p.2) (judged-first _ _ _ _ _ _ c.in_err-checked.ensures.judged refl)
 
-pub check_reading-requires : goal.check_reading-requires
-check_reading-requires c =
+pub returns-in_err-check_reading-clause-judged : goal.returns-in_err-check_reading-clause-judged
+returns-in_err-check_reading-clause-judged c =
     let a = c.args in
-    let i = judged_passed a.long a.state a.list.now Passed _ c.judge_entry.ensures c.in_default.is in
-    (c.requires i.0, fits-few a.state.count a.state.registered a.list.now i.1.list, fits-limits a.state.count a.state.registered a.list.now i.1.list)
+    let p = err_from_is_err_and c.from_residual-in_err-check_reading.result c.from_residual-in_err-check_reading.ensures.1 in
+    rw (p.1, p.2)
+    (judged-last _ _ _ _ _ _ c.in_ok-checked.ensures.judged refl
+    (c.in_err-check_reading.ensures
+    ∙ ap (λ (qs : List Query). first_refusal (reading_checks a.state.count qs a.places)) (held_is _ _ _ c.in_ok-checked.ensures.passed)))
 
-pub returns : goal.returns
-returns c =
+pub returns-clause-judged : goal.returns-clause-judged
+returns-clause-judged c =
     let a = c.args in
-    judged-last a.long a.state a.list.now (first_refusal (reading_checks a.state.count (used a.state.registered a.list.now) a.places)) _ _ c.judge_entry.ensures c.in_default.is c.check_reading.ensures
+    judged-last _ _ _ _ _ _ c.in_ok-checked.ensures.judged refl
+    (c.in_ok-check_reading.ensures
+    ∙ ap (λ (qs : List Query). first_refusal (reading_checks a.state.count qs a.places)) (held_is _ _ _ c.in_ok-checked.ensures.passed))

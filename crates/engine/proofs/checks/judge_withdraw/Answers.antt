@@ -1,23 +1,18 @@
 -- `judge_withdraw`: checks 1 and 2, and then 9. Assumes nothing.
-use Rattle.window.specs.declared.refusal.Verdict.TheVariants.{Passed}
+use Rattle.std.proofs.Common.{refl, ap, ◌∙◌, List}
+use Rattle.std.proofs.lemmas.Result.{err_from_is_err_and}
+use Rattle.window.specs.declared.query.Query.{Query}
 use Rattle.window.specs.Refusals.{first_refusal, withdraw_checks}
-use Rattle.registry.specs.Records.{used}
-use Rattle.registry.proofs.Intact.{fits-few}
-use Rattle.engine.proofs.Judging.{judged-first, judged_passed, judged-last}
+use Rattle.engine.proofs.Judging.{judged-first, judged-last, held_is}
 use Rattle.engine.proofs.checks.judge_withdraw.Goals as goal
 
-pub returns-in-Refused : goal.returns-in-Refused
-returns-in-Refused c =
-    let a = c.args in
-    judged-first a.long a.state a.list.now _ _ _ c.judge_entry.ensures c.in-Refused.is
-
-pub check_withdraw-requires : goal.check_withdraw-requires
-check_withdraw-requires c =
-    let a = c.args in
-    let i = judged_passed a.long a.state a.list.now Passed _ c.judge_entry.ensures c.in_default.is in
-    (c.requires i.0, fits-few a.state.count a.state.registered a.list.now i.1.list)
+pub returns-in_err-queries : goal.returns-in_err-queries
+returns-in_err-queries c =
+    let p = err_from_is_err_and c.from_residual.result c.from_residual.ensures.1 in
+    rw (p.1, p.2) (judged-first _ _ _ _ _ _ c.in_err-queries.ensures.judged refl)
 
 pub returns : goal.returns
 returns c =
-    let a = c.args in
-    judged-last a.long a.state a.list.now (first_refusal (withdraw_checks (used a.state.registered a.list.now) a.number)) _ _ c.judge_entry.ensures c.in_default.is c.check_withdraw.ensures
+    judged-last _ _ _ _ _ _ c.in_ok-queries.ensures.judged refl
+    (c.check_withdraw.ensures
+    ∙ ap (λ (qs : List Query). first_refusal (withdraw_checks qs c.args.number)) (held_is _ _ _ c.in_ok-queries.ensures.passed))

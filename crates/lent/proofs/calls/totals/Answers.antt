@@ -1,6 +1,8 @@
--- `totals`: what the call on the copy came to, with the records as they were. Assumes nothing.
+-- `totals`: the list is too short, or the engine gives its totals or refuses. Assumes nothing.
 use Rattle.lent.proofs.Lending.{totals-lent}
 use Rattle.lent.proofs.calls.totals.Goals as goal
 
 pub returns : goal.returns
-returns c = totals-lent _ _ _ _ _ _ _ c.load-list.ensures c.totals.ensures
+returns c =
+    let h = c.in_ok-numbers.ensures in
+    totals-lent _ _ _ h.0 _ (rw h.1 at c.totals.ensures)

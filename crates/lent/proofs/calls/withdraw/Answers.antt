@@ -1,11 +1,16 @@
--- `withdraw`: what the call on the copy came to, and the query that left the list after it. Assumes nothing.
-use Rattle.std.proofs.Common.{ap}
-use Rattle.window.specs.declared.query.Query.{Query}
-use Rattle.lent.proofs.Lending.{withdraw-lent}
+-- `withdraw`: the list is too short, the engine refuses, or the query leaves. Assumes nothing.
+use Rattle.std.proofs.lemmas.Result.{err_from_is_err_and}
+use Rattle.engine.proofs.Steady.{call_steady}
+use Rattle.lent.proofs.Lending.{refused-lent, withdraw-lent}
 use Rattle.lent.proofs.calls.withdraw.Goals as goal
+
+pub returns-in_err-next : goal.returns-in_err-next
+returns-in_err-next c =
+    let h = c.in_ok-numbers.ensures in
+    let p = err_from_is_err_and c.from_residual-in_err-next.result c.from_residual-in_err-next.ensures.1 in
+    rw (p.1, p.2) (refused-lent _ _ _ h.0 _ (call_steady _) _ _ _ (rw h.1 at c.in_err-next.ensures))
 
 pub returns : goal.returns
 returns c =
-    let e = c.withdraw-made.ensures in
-    rw c.leave.ensures.0
-    (withdraw-lent _ _ _ _ _ _ _ _ _ _ _ c.load-list.ensures e.0 e.1.0 (ap (λ (q : Query). q.number) e.1.1) c.leave.ensures.1)
+    let h = c.in_ok-numbers.ensures in
+    withdraw-lent _ _ _ h.0 _ _ _ _ _ _ _ (rw h.1 at c.in_ok-next.ensures) c.withdraw-2.ensures.1

@@ -1,6 +1,6 @@
 -- `put_place`: the first j places are the new ones, those behind them are as they were, and what is carried is the new
 -- one at j. Assumes nothing.
-use Rattle.std.proofs.Common.{◌+◌, ◌-◌, ◌≡◌, ◌≤◌, get_or}
+use Rattle.std.proofs.Common.{◌+◌, ◌≡◌, ◌≤◌, get_or}
 use lib.Seq.{paste}
 use Rattle.registry.specs.Records.{order_at, order}
 use Rattle.registry.proofs.Ordering.{with_place_at}
@@ -11,6 +11,3 @@ invariant-loop-j l =
     let lent = l.fn.list in
     let new = with_place_at l.k l.r (order l.k lent) in
     (l.r ≤ l.j) × (l.j ≤ l.k + 1) × (l.list ≡ paste lent order_at new l.j) × (l.j ≤ l.k → l.carried ≡ get_or new l.j 0)
-
-abbrev pub decreases-loop-j : goal.decreases-loop-j
-decreases-loop-j l = l.k + 1 - l.j

@@ -11,7 +11,7 @@ pub loop-i-preserved : goal.loop-i-preserved
 loop-i-preserved c =
     let a = c.args in
     let l = c.loop-i in
-    let q = c.query_at-q in
+    let q = c.query-q in
     let next = c.if-number-q in
     elim next.branch [
       | then-number-q w ↦

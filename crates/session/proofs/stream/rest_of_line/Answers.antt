@@ -2,12 +2,12 @@
 use Rattle.session.proofs.Feeding.{rest_kept, rest_taken}
 use Rattle.session.proofs.stream.rest_of_line.Goals as goal
 
-pub returns-then-chunk-to : goal.returns-then-chunk-to
-returns-then-chunk-to c =
-    rest_kept _ c.args.taken _ _ _ _ _ _ c.find_byte-to.ensures c.requires.to_in_bounds.0 c.requires.answers_len.1.1 c.keep.result _ c.if-chunk-to.true
-    c.keep.ensures c.longer.ensures
+pub returns-in-None-clause-rest : goal.returns-in-None-clause-rest
+returns-in-None-clause-rest c =
+    rest_kept _ c.args.from c.args.session _ _ _ _ c.keep-kept.ensures.beyond c.requires.inside c.requires.few c.keep-kept.result _ _ c.in-None.ensures
+    c.keep-kept.ensures.joined
 
-pub returns : goal.returns
-returns c =
-    rest_taken _ c.args.taken _ _ _ _ _ _ c.find_byte-to.ensures c.requires.to_in_bounds.0 c.requires.answers_len.1.1 c.if-chunk-to.false
-    c.asks_with.ensures c.end_line.ensures c.taken.ensures
+pub returns-in-Some-clause-rest : goal.returns-in-Some-clause-rest
+returns-in-Some-clause-rest c =
+    rest_taken _ c.args.from c.args.session _ _ _ _ c.asks_with-asked.ensures.beyond c.requires.inside c.requires.few _ c.in-Some.ensures
+    c.asks_with-asked.ensures.joined c.end_line-next.ensures.ended

@@ -4,7 +4,7 @@ use Rattle.std.proofs.Math.Facts.{to_z-of_z}
 use Rattle.std.specs.Int.Signed.{le_z}
 use Rattle.window.specs.Orders.{ge_z}
 use Rattle.board.specs.Aggregates.{maximum_of, minimum_of}
-use Rattle.board.specs.Tables.{tables}
+use Rattle.board.specs.Lending.{shared_lists}
 use Rattle.board.proofs.Holding.{sums_sorted, deque_sorted, value_heads}
 use Rattle.board.proofs.board.Board.heads.Goals as goal
 
@@ -12,7 +12,7 @@ pub returns : goal.returns
 returns c =
     let a = c.args in
     let b = a.self in
-    let t = tables a.starts.now a.sums.now a.max_starts.now a.max_values.now a.min_starts.now a.min_values.now in
+    let t = shared_lists a.tables in
     let p = c.sum_from in
     let x = c.extreme_from in
     let n = c.extreme_from-2 in

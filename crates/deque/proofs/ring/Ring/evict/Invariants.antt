@@ -1,14 +1,12 @@
--- `Ring::evict`: what is still to be done leaves what doing it all leaves. Assumes nothing.
-use Rattle.std.proofs.Common.{◌≡◌, ◌<◌, ◌≤◌}
-use Rattle.deque.specs.Rings.{capacity, starts_of, advanced, count_before}
-use Rattle.deque.proofs.Rings.{ring_of}
+-- `Ring::evict`: the ring is without its oldest so far, all of which start before the horizon. Assumes nothing.
+use Rattle.std.proofs.Common.{◌≡◌, ℕ, ◌-◌, ◌<◌, ◌≤◌}
+use Rattle.deque.specs.Rings.{place, start_at, advanced}
 use Rattle.deque.proofs.ring.Ring.evict.Given as goal
 
-abbrev pub invariant-loop-len : goal.invariant-loop-len
-invariant-loop-len l =
-    (l.head < capacity) × (l.len ≤ l.fn.self.len)
-    × (advanced (count_before l.horizon (starts_of l.starts (ring_of l.head l.len))) (ring_of l.head l.len)
-    ≡ advanced (count_before l.horizon (starts_of l.starts l.fn.self)) l.fn.self)
+abbrev pub invariant-loop-self : goal.invariant-loop-self
+invariant-loop-self l =
+    (l.self.len ≤ l.fn.self.len) × (l.self ≡ advanced (l.fn.self.len - l.self.len) l.fn.self)
+    × ((j : ℕ) → j < l.fn.self.len - l.self.len → start_at l.starts (place l.fn.self.head j) < l.horizon)
 
-abbrev pub decreases-loop-len : goal.decreases-loop-len
-decreases-loop-len l = l.len
+abbrev pub decreases-loop-self : goal.decreases-loop-self
+decreases-loop-self l = l.self.len

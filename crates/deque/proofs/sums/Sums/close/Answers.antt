@@ -1,53 +1,48 @@
 -- `Sums::close`: at place 0 a new lap begins, elsewhere the lap goes on; either way the push of the partial is all that
 -- is asked. Assumes nothing.
-use Rattle.std.proofs.Common.{◌≡◌, ◌≤◌, ℕ, ℤ, List, length, refl, ap, arith, pos}
+use Rattle.std.proofs.Common.{◌≡◌, ℤ, pos, ◌+ℤ◌, ap, ◌∙◌, refl, arith, to_z, of_z, w64}
 use Rattle.std.proofs.Math.ListN.{set}
-use Rattle.std.proofs.Math.Facts.{to_z-of_z}
-use Rattle.ints.specs.Sizes.{Small}
-use Rattle.ints.proofs.Round.{add_is}
+use Rattle.std.proofs.lemmas.Int.{ints}
 use Rattle.deque.specs.declared.ring.Ring.{Ring}
 use Rattle.deque.specs.declared.sums.Sums.{Sums}
-use Rattle.deque.specs.Rings.{capacity, place, with_room, grown}
-use Rattle.deque.specs.Sums.{FitsSums, sum_limit}
-use Rattle.deque.proofs.Laps.{LapStep, within_lap, new_lap, Pushed, on_ring, Closes, lap-fits, previous-fits, more-fits, closed_all}
+use Rattle.deque.specs.Rings.{with_room, grown}
+use Rattle.deque.proofs.Laps.{LapStep, within_lap, new_lap, Pushed, on_ring, lap-fits, more-fits, closed_all}
 use Rattle.deque.proofs.sums.Sums.close.Goals as goal
-
--- a push that steps the laps as it should is all that is asked
-closed : (s s₁ : Sums) (starts starts₁ : List ℕ) (sums : List ℤ) (q start : ℕ) (v x : ℤ) → FitsSums s → Small sum_limit x
-    → capacity ≤ length starts → capacity ≤ length sums
-    → s₁.ring ≡ grown (with_room s.ring) → q ≡ place (with_room s.ring).head (with_room s.ring).len → starts₁ ≡ set starts q start
-    → LapStep (on_ring (with_room s.ring) s) s₁ q v x → Closes starts starts₁ sums (set sums q v) s s₁ start x
-closed s s₁ starts starts₁ sums q start v x f m long wide er eq es step =
-    closed_all starts s (with_room s.ring) refl f m pushed starts₁ start long es
-  where
-    pushed : Pushed sums (set sums q v) (on_ring (with_room s.ring) s) s₁ q v x
-    pushed = record {
-      inside = omega arith;
-      room = omega arith;
-      long = wide;
-      next = eq;
-      stored = refl;
-      head = ap (λ (r : Ring). r.head) er;
-      len = ap (λ (r : Ring). r.len) er;
-      step = step;
-    }
-
-pub returns-then-p-eq0 : goal.returns-then-p-eq0
-returns-then-p-eq0 c =
-    let a = c.args in
-    let p = c.push-pushed in
-    let all = closed a.self _ a.starts.now p.new.starts a.sums.now p.result.place a.start (pos 0) a.sum c.requires.0 c.requires.3
-    (omega arith) (omega arith) p.ensures.pushed.0 p.ensures.pushed.1 p.ensures.stored
-    (new_lap c.if-p-eq0.true refl (to_z-of_z c.ranges.sum) (to_z-of_z (lap-fits a.self c.requires.0))) in
-    record { fits = all.0; entries = all.1.0; bounds = all.1.1.0; beyond = all.1.1.1 }
+use Rattle.deque.proofs.sums.Sums.close.Goals.{then-place-eq0, else-place-eq0}
 
 pub returns : goal.returns
 returns c =
     let a = c.args in
-    let p = c.push-pushed in
-    let l = to_z-of_z (lap-fits a.self c.requires.0) in
-    let all = closed a.self _ a.starts.now p.new.starts a.sums.now p.result.place a.start _ a.sum c.requires.0 c.requires.3
-    (omega arith) (omega arith) p.ensures.pushed.0 p.ensures.pushed.1 p.ensures.stored
-    (within_lap c.if-p-eq0.false l (add_is l (to_z-of_z c.ranges.sum) (more-fits a.self c.requires.0 a.sum c.requires.3))
-    (to_z-of_z (previous-fits a.self c.requires.0))) in
-    record { fits = all.0; entries = all.1.0; bounds = all.1.1.0; beyond = all.1.1.1 }
+    let s : Sums = a.self in
+    let p = c.push-place in
+    let t : Sums = c.if-place-eq0.self in
+    let v : ℤ = to_z w64 (of_z w64 t.lap) in
+    let s₁ : Sums = record { ring = t.ring; lap = to_z w64 (of_z w64 (v +ℤ to_z w64 (of_z w64 a.sum))); previous = t.previous } in
+    let fits = lap-fits s c.requires.0 in
+    let more = more-fits s c.requires.0 a.sum c.requires.3 in
+    let ring : t.ring ≡ grown (with_room s.ring) = elim c.if-place-eq0.branch [
+      | then-place-eq0 w ↦ ap (λ (u : Sums). u.ring) w.self-is ∙ p.ensures.pushed.0
+      | else-place-eq0 w ↦ ap (λ (u : Sums). u.ring) w.self-is ∙ p.ensures.pushed.0
+    ] in
+    let step : LapStep (on_ring (with_room s.ring) s) s₁ p.result v a.sum = elim c.if-place-eq0.branch [
+      | then-place-eq0 w ↦
+          let l : t.lap ≡ pos 0 = ap (λ (u : Sums). u.lap) w.self-is in
+          let b : t.previous ≡ to_z w64 (of_z w64 s.lap) = ap (λ (u : Sums). u.previous) w.self-is in
+          new_lap w.if-place-eq0.true (omega (arith, ints)) (omega (arith, ints)) (omega (arith, ints))
+      | else-place-eq0 w ↦
+          let l : t.lap ≡ s.lap = ap (λ (u : Sums). u.lap) w.self-is in
+          let b : t.previous ≡ s.previous = ap (λ (u : Sums). u.previous) w.self-is in
+          within_lap w.if-place-eq0.false (omega (arith, ints)) (omega (arith, ints)) b
+    ] in
+    let pushed : Pushed a.sums.now (set a.sums.now p.result v) (on_ring (with_room s.ring) s) s₁ p.result v a.sum = record {
+      inside = omega arith;
+      room = omega arith;
+      long = omega arith;
+      next = p.ensures.pushed.1;
+      stored = refl;
+      head = ap (λ (r : Ring). r.head) ring;
+      len = ap (λ (r : Ring). r.len) ring;
+      step = step;
+    } in
+    let all = closed_all a.starts.now s (with_room s.ring) refl c.requires.0 c.requires.3 pushed p.new.starts a.start (omega arith) p.ensures.stored in
+    record { fits = all.fits; entries = all.entries; bounds = all.bounds; beyond = all.beyond }

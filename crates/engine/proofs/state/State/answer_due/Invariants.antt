@@ -1,11 +1,12 @@
 -- `State::answer_due`: the due queries before i are answered, and those from i on are to come. Assumes nothing.
-use Rattle.std.proofs.Common.{◌-◌, ◌≤◌, ℕ, List, drop}
+use Rattle.std.proofs.Common.{◌≤◌, ℕ, List, drop}
 use Rattle.window.specs.declared.query.Query.{Query}
 use Rattle.window.specs.Refusals.{due_at}
 use Rattle.window.specs.Calls.{Answer}
-use Rattle.registry.specs.Records.{used}
+use Rattle.registry.specs.Held.{held}
 use Rattle.board.specs.declared.board.Board.{Board}
-use Rattle.board.specs.Tables.{Tables, tables}
+use Rattle.board.specs.Lending.{shared_lists}
+use Rattle.board.specs.Tables.{Tables}
 use Rattle.engine.specs.Answers.{answer_in, Backing}
 use Rattle.engine.proofs.Places.{AnsweredTo}
 use Rattle.engine.proofs.state.State.answer_due.Given as goal
@@ -16,8 +17,5 @@ backed n qs b t x = answer_in x.ledger.closed n
 
 abbrev pub invariant-loop-i : goal.invariant-loop-i
 invariant-loop-i l =
-    (l.i ≤ l.self.registered) × (l.answered ≤ l.i)
-    × AnsweredTo (backed l.self.count (used l.self.registered l.list) l.self.board (tables l.starts l.sums l.max_starts l.max_values l.min_starts l.min_values)) (due_at l.self.count (used l.self.registered l.list)) (due_at l.self.count (drop l.i (used l.self.registered l.list))) l.initial.answers l.answers l.answered
-
-abbrev pub decreases-loop-i : goal.decreases-loop-i
-decreases-loop-i l = l.k - l.i
+    (l.answered ≤ l.i)
+    × AnsweredTo (backed l.self.count (held l.checked.queries) l.self.board (shared_lists l.tables)) (due_at l.self.count (held l.checked.queries)) (due_at l.self.count (drop l.i (held l.checked.queries))) l.initial.answers l.answers l.answered

@@ -1,6 +1,5 @@
 -- `State::window_value`: the count of the window, or the board's value. Assumes nothing.
-use Rattle.std.proofs.Common.{◌≡◌, sym, ap, ◌∙◌, subst, ℕ, ◌≤◌, List, arith, w64, pos, to_z-of_z, eq-eqb, ne_eqb}
-use Rattle.ints.proofs.Sizes.{most_is}
+use Rattle.std.proofs.Common.{◌≡◌, sym, ap, ◌∙◌, subst, ℕ, ◌≤◌, List, w64, pos, to_z-of_z, eq-eqb, ne_eqb}
 use Rattle.window.specs.declared.query.Query.{Query}
 use Rattle.window.specs.Queries.{count_kind, window_start, window_count}
 use Rattle.board.specs.declared.aggregate.Aggregate.{Aggregate}
@@ -18,11 +17,12 @@ value_other : (cs : List Aggregate) (n : ℕ) (q : Query) (from : ℕ) → from 
 unfolding value_in
 value_other cs n q from w e = rw (ne_eqb q.kind count_kind e, w)
 
-pub returns-then-q-eq2 : goal.returns-then-q-eq2
-returns-then-q-eq2 c h l k le =
-    most_is c.window_count.result (omega arith)
+pub returns-then-q : goal.returns-then-q
+returns-then-q c h l k le =
+    to_z-of_z {w = w64} {z = c.from.result} (record { sfits = c.from.type_inv })
+    ∙ c.from.ensures
     ∙ ap pos c.window_count.ensures
-    ∙ value_count l.closed c.args.self.count c.args.q c.if-q-eq2.true
+    ∙ value_count l.closed c.args.self.count c.args.q c.if-q.true
 
 pub returns-then-from-horizon : goal.returns-then-from-horizon
 returns-then-from-horizon c h l k le =
@@ -32,7 +32,7 @@ returns-then-from-horizon c h l k le =
     to_z-of_z {w = w64} {z = c.value.result} (record { sfits = c.value.type_inv })
     ∙ c.value.ensures
     ∙ (c.requires.2.values a.q.kind).value h l k (subst (λ (x : ℕ). h ≤ x) (sym w ∙ from) le)
-    ∙ value_other l.closed a.self.count a.q a.horizon (sym from ∙ w) c.if-q-eq2.false
+    ∙ value_other l.closed a.self.count a.q a.horizon (sym from ∙ w) c.if-q.false
 
 pub returns : goal.returns
 returns c h l k le =
@@ -40,4 +40,4 @@ returns c h l k le =
     let w = c.window_start-from.ensures in
     to_z-of_z {w = w64} {z = c.value_from.result} (record { sfits = c.value_from.type_inv })
     ∙ c.value_from.ensures.value h l k (subst (λ (x : ℕ). h ≤ x) (sym w) le)
-    ∙ value_other l.closed a.self.count a.q c.window_start-from.result w c.if-q-eq2.false
+    ∙ value_other l.closed a.self.count a.q c.window_start-from.result w c.if-q.false

@@ -5,5 +5,5 @@ use Rattle.window.proofs.query.Query.edge.Goals as goal
 
 pub returns : goal.returns
 returns c =
-    rw (c.count_of.ensures, c.count_of-slide.ensures)
-    (sym (edge_elsewhere _ _ _ c.phase.ensures c.if-m-self.false (λ e. c.if-rest-eq0.false (rw c.count_of-slide.ensures e))))
+    rw (c.from.ensures, c.from-slide.ensures)
+    (sym (edge_elsewhere _ _ _ c.phase.ensures c.if-m-self.false (λ e. c.if-rest-eq0.false (rw c.from-slide.ensures e))))

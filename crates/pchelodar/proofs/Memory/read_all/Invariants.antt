@@ -1,0 +1,11 @@
+-- `read_all`: all that the reads brought so far was fed. Assumes nothing.
+use Rattle.pchelodar.specs.Promises.{ReadsFed, known}
+use Rattle.pchelodar.specs.Memories.{held_of, SameMemory}
+use Rattle.pchelodar.proofs.Memory.read_all.Given as goal
+
+abbrev pub invariant-loop : goal.invariant-loop
+invariant-loop g l =
+    let i = l.initial in
+    SameMemory i.self l.self × ReadsFed l.counter (held_of i.self) (held_of l.self)
+    (known (g.R.Read.remaining i.input) (g.W.Write.contents i.output))
+    (known (g.R.Read.remaining l.input) (g.W.Write.contents l.output))
