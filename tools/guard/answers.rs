@@ -38,24 +38,38 @@ fn hands_another(sources: &Sources, list: &[Tree], at: usize) -> bool {
     !places.is_empty() && !places.iter().any(|place| matches!(given[*place], [one] if one.is_word(ANSWERS)))
 }
 
-/// Every mention in a list and below it that is none of those. Where the list is what a call is handed, `call` is the
-/// name of what is called.
+/// The struct that has a field of that name, which is a number: how many answers were written.
+const COUNTED: &str = "Answered";
+
+/// Every mention in a list and below it that is none of those. Where the list is what a call is handed, or what that
+/// struct is written with, `call` is the name that stands before it.
 fn renamed(sources: &Sources, function: &Function, list: &[Tree], call: Option<&str>, found: &mut Vec<Finding>) {
     for at in 0..list.len() {
-        if list[at].is_word(ANSWERS) && !is_place(list, at) && !is_handed(sources, list, at, call) {
+        let counted = call == Some(COUNTED) && is_field(list, at);
+        if list[at].is_word(ANSWERS) && !counted && !is_place(list, at) && !is_handed(sources, list, at, call) {
             let what = format!("the answer places get another name, in {}", function.title());
             found.push(function.finding(list[at].line, what));
         }
-        let name = if at > 0 && list[at].group('(').is_some() { list[at - 1].word() } else { None };
+        let counts = at > 0 && list[at].group('{').is_some() && list[at - 1].is_word(COUNTED);
+        let calls = at > 0 && list[at].group('(').is_some();
+        let name = if calls || counts { list[at - 1].word() } else { None };
         renamed(sources, function, list[at].inner().unwrap_or_default(), name, found);
     }
 }
 
-/// A place, the length, or a `let` that gives the name to something else.
+/// The name of a field, by itself or with what it gets behind it.
+fn is_field(list: &[Tree], at: usize) -> bool {
+    let ends = |tree: &Tree| tree.is_sign(",") || tree.is_sign(":");
+    (at == 0 || list[at - 1].is_sign(",")) && list.get(at + 1).map_or(true, ends)
+}
+
+/// A place, the length, a `let` that gives the name to something else, or the field of `COUNTED`, since no other struct
+/// holds one of the name.
 fn is_place(list: &[Tree], at: usize) -> bool {
     let index = list.get(at + 1).and_then(|next| next.group('['));
     let bound = at > 0 && list[at - 1].is_word("let") && begins(&list[at + 1..], "=");
-    bound || begins(&list[at + 1..], ". len (") || index.is_some_and(|index| !is_range(index))
+    let of_another = at > 0 && list[at - 1].is_sign(".");
+    bound || of_another || begins(&list[at + 1..], ". len (") || index.is_some_and(|index| !is_range(index))
 }
 
 /// An argument by itself, for a parameter of the same name.

@@ -1,10 +1,12 @@
 //! What is no code and is left out first: the clauses of a function between its head and its body, ghost items and
 //! fields, and attributes that change no code.
 
+use crate::derives;
 use crate::tokens::{begins, is_written, Kind, Tree};
 
-/// The attributes that may stand before an item, `#[tactic(..)]` aside, which may also stand in a body.
-const ATTRIBUTES: [&str; 3] = ["derive(Clone, Copy)", "derive(Drop)", "unsafe(no_mangle)"];
+/// The attributes that may stand before an item, beside derives (`derives.rs`) and `#[tactic(..)]`, which may also
+/// stand in a body.
+const ATTRIBUTES: [&str; 1] = ["unsafe(no_mangle)"];
 
 /// What may stand at the head of a file.
 const HEAD: &str = "tactic(auto)";
@@ -43,7 +45,8 @@ fn part(trees: &[Tree], body: bool) -> Vec<Tree> {
 fn attribute(rest: &[Tree], body: bool) -> Option<usize> {
     let inner = rest.get(1).filter(|_| rest[0].is_sign("#"))?.group('[')?;
     let tactic = inner.len() == 2 && begins(inner, "tactic (");
-    let known = tactic || (!body && ATTRIBUTES.iter().any(|text| is_written(inner, text)));
+    let before_item = derives::is_known(inner) || ATTRIBUTES.iter().any(|text| is_written(inner, text));
+    let known = tactic || (!body && before_item);
     known.then_some(2)
 }
 

@@ -5,15 +5,15 @@ use crate::open_partial;
 use crate::shape::{
     arguments, arms, assignments, block_after, bound_names, end_of_expression, is_struct, tail, Assignment,
 };
-use crate::source::{Function, Sources};
+use crate::source::{Declared, Function, Sources};
 use crate::tokens::{each_list, split, Tree};
 use std::collections::BTreeSet;
 
 /// The names under which tables of values are lent, in every crate.
 pub const TABLES: [&str; 3] = ["values", "max_values", "min_values"];
 
-/// The one other name, which a parameter of this function of the board has: it fills a table with zeroes.
-pub const ZEROED: (&str, &str) = ("zero_values", "table");
+/// The one other name, which a parameter of this function has: it fills a table of any numbers with one of them.
+pub const OVERWRITTEN: (&str, &str) = ("board overwrite", "table");
 
 /// The answer places, which a value may be stored in, and the crates in which one that is read back is followed on.
 /// Above them answers are printed.
@@ -59,10 +59,25 @@ impl Facts {
         }
     }
 
+    /// The first field of a struct or of an enum's cases that holds a value.
+    pub fn field_of<'a>(&self, declared: &'a Declared) -> Option<&'a str> {
+        let mut fields = Vec::new();
+        each_list(&declared.body, &mut |list| {
+            let named = |at: &usize| list.get(at + 1).is_some_and(|next| next.is_sign(":"));
+            fields.extend((0..list.len()).filter(named).filter_map(|at| list[at].word()));
+        });
+        fields.into_iter().find(|field| self.fields.contains(*field))
+    }
+
     /// Whether what is called at this place returns a value. After a dot it is a function of a type, after a path it
-    /// may be one, and else it is none.
+    /// may be one, and else it is none. `into` calls `from`, and `try_into` calls `try_from`.
     fn returned_at(&self, list: &[Tree], at: usize) -> bool {
-        let known = |carriers: &BTreeSet<String>| list[at].word().is_some_and(|word| carriers.contains(word));
+        let called = match list[at].word() {
+            Some("into") => Some("from"),
+            Some("try_into") => Some("try_from"),
+            word => word,
+        };
+        let known = |carriers: &BTreeSet<String>| called.is_some_and(|word| carriers.contains(word));
         match at.checked_sub(1).and_then(|before| list[before].sign()) {
             Some(".") => known(&self.methods),
             Some("::") => known(&self.methods) || known(&self.functions),
@@ -90,6 +105,8 @@ impl<'a> View<'a> {
             }
             let is_i32 = matches!(&param.kind[..], [one] if sources.i32s.iter().any(|name| one.is_word(name)));
             let handed = HANDED.iter().any(|(name, taker)| function.is(name) && param.name == *taker);
+            let of_any = |tree: &Tree| function.generics.iter().any(|name| tree.is_word(name));
+            let handed = handed || matches!(&param.kind[..], [one] if of_any(one));
             if handed || (is_i32 && OF_VALUES.contains(&function.krate.as_str())) {
                 locals.insert(param.name.as_str());
             }
@@ -111,7 +128,7 @@ impl<'a> View<'a> {
             if view.is_value(one.value) {
                 more.extend(&one.names);
                 if !one.is_let {
-                    more.extend(assigned_local(one.place));
+                    assigned_locals(one.place, &mut more);
                 }
             }
         });
@@ -133,6 +150,13 @@ impl<'a> View<'a> {
         });
     }
 
+    /// Whether a name is that of a parameter or a local, as a closure is called by one.
+    pub fn binds(&self, name: &str) -> bool {
+        let mut bound = self.function.params.iter().any(|param| param.name == name);
+        self.each_assignment(&mut |_, one| bound |= one.names.contains(&name));
+        bound
+    }
+
     /// Whether a field of this name holds a value. Those of the open partial, where they are named, do not.
     fn holds_value(&self, field: &str) -> bool {
         self.facts.fields.contains(field) && !open_partial::is_open(self.function, field)
@@ -151,7 +175,8 @@ impl<'a> View<'a> {
             }
         }
         if next.is_some_and(|next| next.group('(').is_some()) {
-            return self.facts.returned_at(list, at);
+            let plain = !after_dot && !(at > 0 && list[at - 1].is_sign("::"));
+            return self.facts.returned_at(list, at) || (plain && self.locals.contains(word));
         }
         if after_dot {
             return self.holds_value(word);
@@ -264,20 +289,32 @@ impl<'a> View<'a> {
 
     /// Whether a table itself, or a part of it, is what these trees come to: not lent to a call, and not its length.
     pub fn has_table(&self, trees: &[Tree]) -> bool {
+        self.comes_to_table(trees, false)
+    }
+
+    /// The same, but for those that a struct holds, whose fields are looked at where it is written.
+    pub fn has_loose_table(&self, trees: &[Tree]) -> bool {
+        self.comes_to_table(trees, true)
+    }
+
+    fn comes_to_table(&self, trees: &[Tree], loose: bool) -> bool {
         (0..trees.len()).any(|at| {
             let next = trees.get(at + 1);
+            if loose && at > 0 && is_struct(self.sources, trees, at - 1) {
+                return false;
+            }
             let read =
                 next.is_some_and(|next| next.is_sign(".") || next.group('[').is_some_and(|index| !is_range(index)));
             let is_table = trees[at].word().is_some_and(|word| self.tables.contains(&word)) && !read;
             let lent = at > 0 && trees[at].group('(').is_some() && arguments(trees, at - 1).is_some();
-            is_table || (!lent && self.has_table(trees[at].inner().unwrap_or_default()))
+            is_table || (!lent && self.comes_to_table(trees[at].inner().unwrap_or_default(), loose))
         })
     }
 }
 
 /// The fields of a struct that is written at this place, as an expression or as a pattern: each name, and what it gets
 /// or is bound to.
-fn fields_at<'a>(sources: &Sources, list: &'a [Tree], at: usize) -> Vec<(&'a str, &'a [Tree])> {
+pub fn fields_at<'a>(sources: &Sources, list: &'a [Tree], at: usize) -> Vec<(&'a str, &'a [Tree])> {
     if !is_struct(sources, list, at) {
         return Vec::new();
     }
@@ -294,12 +331,13 @@ fn is_pattern(value: &[Tree]) -> bool {
     value.iter().all(|tree| !tree.is_sign(".") && is_pattern(tree.inner().unwrap_or_default()))
 }
 
-/// The local that is assigned to.
-fn assigned_local(place: &[Tree]) -> Option<&str> {
+/// The locals that are assigned to, also several in brackets.
+fn assigned_locals<'a>(place: &'a [Tree], locals: &mut Vec<&'a str>) {
     match place {
-        [local] => local.word(),
-        [star, local] if star.is_sign("*") => local.word(),
-        _ => None,
+        [star, local] if star.is_sign("*") => locals.extend(local.word()),
+        [one] if one.inner().is_some() => bound_names(place, locals),
+        [local] => locals.extend(local.word()),
+        _ => {}
     }
 }
 

@@ -1,7 +1,7 @@
 //! What crates name beside each other: what reads and writes (`KIT`) where that list says, of `std` what neither reads
 //! nor writes (`STD`), and no other crate that comes with the language.
 
-use crate::program::{CRATE, KIT, STD};
+use crate::program::{CRATE, DEMO, KIT, OF_IO, PRINTING, STD};
 use crate::shape::is_keyword;
 use crate::source::{File, Finding, Sources};
 use crate::tokens::{each_list, mentions, Tree};
@@ -21,11 +21,13 @@ pub fn report(sources: &Sources, file: &File, found: &mut Vec<Finding>) {
         let of_std = root == "std" && (file.krate == CRATE || STD.contains(&next));
         let own = sources.files.iter().any(|file| file.krate == root) || modules.iter().any(|name| name == root);
         let kit = KIT.iter().any(|(word, _)| *word == root);
-        if !(of_std || own || kit || is_of_language(root)) {
+        let of_io = file.krate == DEMO && root == "io" && next != OF_IO;
+        if of_io || !(of_std || own || kit || is_of_language(root)) {
             found.push(Finding::new(&file.path, line, format!("`{root}::{next}` is none of the repository's")));
         }
     };
-    for one in &file.uses {
+    let prints = |path: &str| file.krate == DEMO && PRINTING.contains(&path);
+    for one in file.uses.iter().filter(|one| !prints(&one.path)) {
         named(one.root(), one.path.split("::").nth(1).unwrap_or_default(), one.line);
     }
     each_path(&file.trees, &mut named);

@@ -6,10 +6,12 @@
 mod answers;
 mod brought;
 mod comparison;
+mod derives;
 mod erased;
 mod follow;
 mod forms;
 mod kit;
+mod lending;
 mod open_partial;
 mod planted;
 mod program;

@@ -1,177 +1,223 @@
 //! The session program as it is to be: what each function of crates/pchelodar/src/main.rt calls, statements that are
-//! written just so, and where verdicts, streams and what reads them are named. What `after_read`, `after_write` and
-//! `after_feed` decide is proved.
+//! written just so, and where verdicts, and what reads and writes, are named. What `after_write` and `after_feed`
+//! decide is proved.
 
 pub const CRATE: &str = "pchelodar";
 pub const FILE: &str = "crates/pchelodar/src/main.rt";
 
 /// Its functions, each of them once and no other one.
 pub const FUNCTIONS: [&str; 11] = [
+    "Error::fmt",
     "after_write",
     "after_feed",
-    "feed_chunk",
-    "after_read",
-    "returned",
-    "read_all",
-    "conclude",
-    "report_failure",
-    "message",
-    "run",
+    "Memory::write",
+    "Memory::feed",
+    "Memory::feed_chunk",
+    "Memory::after_read",
+    "Memory::read_all",
+    "Memory::conclude",
+    "Memory::run",
     "main",
 ];
 
-/// What a function calls, by its path, and how often it stands there; its loops, branches and returns too, and cases
-/// that hold something.
-pub const CALLS: [(&str, &str, usize); 40] = [
+/// What a function calls, by its path, and how often it stands there; macros, its loops, branches and returns too, `?`
+/// among them, and cases that hold something.
+pub const CALLS: [(&str, &str, usize); 48] = [
+    ("main", "State::fresh", 1),
+    ("main", ".run", 1),
     ("main", ".stdin", 1),
-    ("main", "io::large_buffer", 2),
-    ("main", "run", 1),
-    ("main", "report_failure", 1),
-    ("run", "session::stream::open", 1),
-    ("run", "read_all", 1),
-    ("run", "conclude", 1),
-    ("read_all", "while", 1),
-    ("read_all", "match", 1),
-    ("read_all", "return", 1),
-    ("read_all", "returned", 1),
-    ("read_all", ".read", 1),
-    ("read_all", "after_read", 1),
-    ("returned", "match", 1),
-    ("returned", "if", 1),
-    ("returned", "Ok", 1),
-    ("returned", "Err", 1),
-    ("after_read", "if", 2),
-    ("after_read", "return", 2),
-    ("after_read", "io::count", 1),
-    ("after_read", "feed_chunk", 1),
-    ("feed_chunk", "while", 1),
-    ("feed_chunk", "match", 1),
-    ("feed_chunk", "return", 1),
-    ("feed_chunk", "session::stream::feed", 1),
-    ("feed_chunk", "io::write_all", 1),
-    ("feed_chunk", "after_write", 1),
-    ("feed_chunk", "after_feed", 1),
-    ("after_write", "if", 1),
-    ("after_write", "return", 1),
+    ("main", ".stdout", 1),
+    ("main", "if", 1),
+    ("main", "Err", 1),
+    ("main", "eprintln!", 1),
+    ("Memory::run", "session::stream::open", 1),
+    ("Memory::run", ".read_all", 1),
+    ("Memory::run", "?", 1),
+    ("Memory::run", ".conclude", 1),
+    ("Memory::read_all", "for", 1),
+    ("Memory::read_all", "if", 1),
+    ("Memory::read_all", "return", 1),
+    ("Memory::read_all", "Ok", 1),
+    ("Memory::read_all", "Err", 1),
+    ("Memory::read_all", "?", 1),
+    ("Memory::read_all", ".read", 1),
+    ("Memory::read_all", ".after_read", 1),
+    ("Memory::after_read", "match", 1),
+    ("Memory::after_read", "if", 1),
+    ("Memory::after_read", "return", 2),
+    ("Memory::after_read", "Ok", 3),
+    ("Memory::after_read", "Err", 2),
+    ("Memory::after_read", "?", 1),
+    ("Memory::after_read", ".feed_chunk", 1),
+    ("Memory::feed_chunk", "while", 1),
+    ("Memory::feed_chunk", "?", 1),
+    ("Memory::feed_chunk", "Ok", 1),
+    ("Memory::feed_chunk", ".is_empty", 1),
+    ("Memory::feed_chunk", ".feed", 1),
+    ("Memory::feed", "session::stream::feed", 1),
+    ("Memory::feed", ".write", 1),
+    ("Memory::feed", "?", 1),
+    ("Memory::feed", "after_feed", 1),
+    ("Memory::write", "after_write", 1),
+    ("Memory::write", ".write_all", 1),
+    ("Memory::conclude", "session::stream::finish", 1),
+    ("Memory::conclude", ".write", 1),
+    ("after_write", "match", 1),
+    ("after_write", "Ok", 2),
+    ("after_write", "Err", 2),
     ("after_feed", "if", 1),
     ("after_feed", "return", 1),
-    ("conclude", "match", 1),
-    ("conclude", "return", 1),
-    ("conclude", "session::stream::finish", 1),
-    ("conclude", "io::write_all", 1),
-    ("conclude", "after_write", 1),
-    ("report_failure", "match", 1),
-    ("report_failure", "message", 3),
-    ("message", "io::write_all", 1),
+    ("after_feed", "Ok", 1),
+    ("after_feed", "Err", 1),
+    ("Error::fmt", "match", 1),
+    ("Error::fmt", "write!", 1),
 ];
 
-/// What `LENT` and `TABLES` stand for in the statements below: all that is lent, and the tables alone.
-pub const LENT: &str = "list, line, TABLES";
-pub const TABLES: &str = "starts, sums, max_starts, max_values, min_starts, min_values";
+/// What `LENT` stands for in the statements below: the session, and all that is lent to it.
+pub const LENT: &str = "self.session, self.list, self.line, &mut self.tables";
 
-/// Statements that stand in a function one after the other, once. Of a string nothing is compared.
-pub const WRITTEN: [(&str, &[&str]); 8] = [
-    ("main", &INPUT),
+/// Statements that stand in a function one after the other, once. Nothing stands beside them, but in `BESIDE`. Of a
+/// string nothing is compared.
+pub const WRITTEN: [(&str, &[&str]); 10] = [
+    ("main", &LENDING),
     ("main", &MAIN),
-    ("run", &RUN),
-    ("read_all", &READ),
-    ("feed_chunk", &FEED),
-    ("conclude", &CONCLUDE),
-    ("report_failure", &REPORT),
-    ("message", &MESSAGE),
+    ("Memory::run", &RUN),
+    ("Memory::read_all", &READ),
+    ("Memory::after_read", &AFTER_READ),
+    ("Memory::feed_chunk", &CHUNK),
+    ("Memory::feed", &FEED),
+    ("Memory::write", &WRITE),
+    ("Memory::conclude", &CONCLUDE),
+    ("Error::fmt", &REPORT),
 ];
+pub const BESIDE: &str = "main";
 
-const INPUT: [&str; 1] = ["let mut input = rt.stdin();"];
+const LENDING: [&str; 2] = [
+    "let tables = LentTables { starts: &mut [0; CAPACITY], sums: &mut [0; CAPACITY], \
+     max_starts: &mut [0; CAPACITY], max_values: &mut [0; CAPACITY], min_starts: &mut [0; CAPACITY], \
+     min_values: &mut [0; CAPACITY] };",
+    "let mut memory = Memory { session: Session { state: State::fresh(), lines: 0, kept: 0 }, \
+     list: &mut [0; LIST_PLACES], line: &mut [0; KEPT], tables, out: &mut [0; BUFFER] };",
+];
 const MAIN: [&str; 3] = [
-    "let ending = run(&mut input, &mut list, &mut line, &mut starts, &mut sums, &mut max_starts, &mut max_values, \
-     &mut min_starts, &mut min_values, &mut chunk, &mut out);",
-    "let progress = ending.progress;",
-    "report_failure(progress);",
+    "let mut chunk = [0; BUFFER];",
+    "let ended = memory.run(&mut rt.stdin(), &mut chunk, &mut rt.stdout());",
+    "if let Err(error) = ended { let _ = eprintln!(rt; \"\"); }",
 ];
 const RUN: [&str; 3] = [
-    "let opened = session::stream::open(list, TABLES);",
-    "let done = read_all(input, opened, LENT, chunk, out);",
-    "conclude(done, LENT, out)",
+    "self.session = session::stream::open(self.list, &mut self.tables);",
+    "self.read_all(input, chunk, output)?;",
+    "self.conclude(output)",
 ];
-const READ: [&str; 6] = [
-    "let got = returned(input.read(chunk));",
-    "let next = after_read(got, held, LENT, chunk, out);",
-    "held = next.session;",
-    "let progress = next.progress;",
-    "let said = next.said;",
-    "match progress { Progress::Onward => {} _ => return ReadsEnd { session: held, progress, got, said } }",
+const READ: [&str; 2] = [
+    "for _ in 0..u64::MAX { let got = input.read(chunk); \
+     if self.after_read(got, chunk, output)? == 0 { return Ok(()); } }",
+    "Err(Error::TooLong)",
 ];
-const FEED: [&str; 8] = [
-    "let taken = session::stream::feed(held, LENT, chunk, from, out);",
-    "held = taken.session;",
-    "let to = taken.to;",
-    "let at = taken.at;",
-    "let said = io::write_all(STDOUT_FILENO, &out[..at]);",
-    "let progress = after_write(said, after_feed(from, to));",
-    "match progress { Progress::Onward => {} _ => return ChunkEnd { session: held, progress, said } }",
-    "from = to;",
+const AFTER_READ: [&str; 4] = [
+    "let count = match got { Ok(count) => count, Err(_) => return Err(Error::ReadFailed) };",
+    "if count == 0 { return Ok(0); }",
+    "self.feed_chunk(&chunk[..count], output)?;",
+    "Ok(count)",
 ];
-const CONCLUDE: [&str; 5] = [
-    "let session = done.session;",
-    "let progress = done.progress;",
-    "let at = match progress { Progress::InputEnded => session::stream::finish(session, LENT, out), \
-     _ => return RunEnd { progress, got: done.got, said: done.said } };",
-    "let said = io::write_all(STDOUT_FILENO, &out[..at]);",
-    "RunEnd { progress: after_write(said, Progress::InputEnded), got: done.got, said }",
+const CHUNK: [&str; 3] = [
+    "let mut rest = chunk;",
+    "while !rest.is_empty() { let taken = self.feed(rest, output)?; rest = &rest[taken..]; }",
+    "Ok(())",
 ];
-const REPORT: [&str; 1] = ["match progress { Progress::ReadFailed => message(\"\"), \
-     Progress::WriteFailed => message(\"\"), Progress::TooLong => message(\"\"), _ => {} }"];
-const MESSAGE: [&str; 1] = ["io::write_all(STDERR_FILENO, text);"];
+const FEED: [&str; 4] = [
+    "let taken = session::stream::feed(LENT, bytes, 0, self.out);",
+    "self.session = taken.session;",
+    "self.write(taken.at, output)?;",
+    "after_feed(taken.to)",
+];
+const WRITE: [&str; 1] = ["after_write(output.write_all(&self.out[..at]))"];
+const CONCLUDE: [&str; 2] = ["let at = session::stream::finish(LENT, self.out);", "self.write(at, output)"];
+const REPORT: [&str; 2] = [
+    "let what = match self { Error::ReadFailed => \"\", Error::WriteFailed => \"\", Error::TooLong => \"\" };",
+    "write!(f, \"\")",
+];
 
-/// A function that is written just so, and nothing beside it: a read that failed is -1, and one that did not is the
-/// number of its bytes.
-pub const WHOLE: [(&str, &str); 1] = [(
-    "returned",
-    "match read { Ok(count) => { if count <= 9_223_372_036_854_775_807 { count as isize } \
-     else { 9_223_372_036_854_775_807 } } Err(_) => -1 }",
-)];
-
-/// The first parameter of a function, with its type.
-pub const PARAMETERS: [(&str, &str, &str); 4] = [
+/// A parameter of a function, with its type.
+pub const PARAMETERS: [(&str, &str, &str); 12] = [
     ("main", "rt", "HostRuntime"),
-    ("run", "input", "&mut Stdin"),
-    ("read_all", "input", "&mut Stdin"),
-    ("returned", "read", "std::io::Result<usize>"),
+    ("Memory::run", "input", "&mut R"),
+    ("Memory::run", "output", "&mut W"),
+    ("Memory::read_all", "input", "&mut R"),
+    ("Memory::read_all", "output", "&mut W"),
+    ("Memory::after_read", "got", "io::Result<usize>"),
+    ("Memory::after_read", "output", "&mut W"),
+    ("Memory::feed_chunk", "output", "&mut W"),
+    ("Memory::feed", "output", "&mut W"),
+    ("Memory::write", "output", "&mut W"),
+    ("Memory::conclude", "output", "&mut W"),
+    ("after_write", "said", "io::Result<()>"),
 ];
 
-/// The streams' numbers, as they are declared.
-pub const STREAMS: [&str; 2] = ["const STDOUT_FILENO: i32 = 1;", "const STDERR_FILENO: i32 = 2;"];
-
-/// The verdicts, the streams, and what reads and writes them: how often each is named outside of all functions' bodies,
-/// and how often in which body.
-pub const NAMED: [(&str, usize, &[(&str, usize)]); 15] = [
-    ("Onward", 1, &[("after_feed", 1), ("feed_chunk", 2), ("read_all", 1)]),
-    ("InputEnded", 1, &[("after_read", 1), ("conclude", 2)]),
-    ("ReadFailed", 1, &[("after_read", 1), ("report_failure", 1)]),
-    ("WriteFailed", 1, &[("after_write", 1), ("report_failure", 1)]),
-    ("TooLong", 1, &[("after_feed", 1), ("read_all", 1), ("report_failure", 1)]),
-    ("STDOUT_FILENO", 1, &[("feed_chunk", 1), ("conclude", 1)]),
-    ("STDERR_FILENO", 1, &[("message", 1)]),
+/// The verdicts, what reads and writes and what is read from and written to, and the struct of the tables: how often
+/// each is named outside of all functions' bodies, and how often in which body.
+pub const NAMED: [(&str, usize, &[(&str, usize)]); 22] = [
+    ("ReadFailed", 1, &[("Error::fmt", 1), ("Memory::after_read", 1)]),
+    ("WriteFailed", 1, &[("Error::fmt", 1), ("after_write", 1)]),
+    ("TooLong", 1, &[("Error::fmt", 1), ("after_feed", 1), ("Memory::read_all", 1)]),
     ("HostRuntime", 1, &[]),
-    ("rt", 1, &[("main", 1)]),
+    ("rt", 1, &[("main", 3)]),
+    ("stdin", 0, &[("main", 1)]),
+    ("stdout", 0, &[("main", 1)]),
+    ("eprintln", 0, &[("main", 1)]),
     ("std", 2, &[]),
-    ("Read", 1, &[]),
-    ("Stdin", 3, &[]),
-    ("input", 2, &[("main", 2), ("run", 1), ("read_all", 1)]),
-    ("read", 1, &[("returned", 1), ("read_all", 1)]),
-    ("io", 2, &[("main", 2), ("feed_chunk", 1), ("after_read", 1), ("conclude", 1), ("message", 1)]),
+    ("io", 4, &[]),
+    ("fmt", 6, &[]),
+    ("Read", 3, &[]),
+    ("Write", 9, &[]),
+    ("input", 2, &[("Memory::run", 1), ("Memory::read_all", 1)]),
+    ("output", 7, &OUTPUT),
+    ("read", 0, &[("Memory::read_all", 1)]),
+    ("write_all", 0, &[("Memory::write", 1)]),
+    ("write", 1, &[("Memory::feed", 1), ("Memory::conclude", 1), ("Error::fmt", 1)]),
+    ("memory", 0, &[("main", 2)]),
+    ("ended", 0, &[("main", 2)]),
+    ("error", 0, &[("main", 1)]),
+    ("tables", 2, &[("main", 2), ("Memory::run", 1), ("Memory::feed", 1), ("Memory::conclude", 1)]),
+];
+
+/// Where `output` is named: `run` hands it on twice.
+const OUTPUT: [(&str, usize); 7] = [
+    ("Memory::run", 2),
+    ("Memory::read_all", 1),
+    ("Memory::after_read", 1),
+    ("Memory::feed_chunk", 1),
+    ("Memory::feed", 1),
+    ("Memory::write", 1),
+    ("Memory::conclude", 1),
 ];
 
 /// What is brought in of `std`, each once.
-pub const BROUGHT: [&str; 2] = ["std::io::Read", "std::io::Stdin"];
+pub const BROUGHT: [&str; 4] = ["std::fmt", "std::io", "std::io::Read", "std::io::Write"];
 
-/// What reads and writes, and the crates that name it: the program, and the other one, which prints by it.
-pub const KIT: [(&str, &[&str]); 9] = [
-    ("io", &[CRATE, "demo"]),
-    ("HostRuntime", &[CRATE]),
+/// The demonstration, which prints.
+pub const DEMO: &str = "demo";
+
+/// What reads and writes, and the crates that name it: the program, and the demonstration, which reads nothing; and
+/// `itoa`, which puts the digits of a number into a slice and neither reads nor writes.
+pub const KIT: [(&str, &[&str]); 21] = [
+    ("io", &[CRATE, DEMO]),
+    ("itoa", &["print"]),
+    ("HostRuntime", &[CRATE, DEMO]),
+    ("Read", &[CRATE]),
+    ("Write", &[CRATE, DEMO]),
+    ("stdin", &[CRATE]),
+    ("stdout", &[CRATE]),
+    ("eprintln", &[CRATE]),
+    ("println", &[DEMO]),
+    ("Stdin", &[]),
+    ("Stdout", &[]),
+    ("Stderr", &[]),
+    ("stderr", &[]),
+    ("eprint", &[]),
     ("LibcRuntime", &[]),
     ("Input", &[]),
-    ("Print", &[]),
+    ("Print", &[DEMO]),
     ("Eprint", &[]),
     ("core", &[]),
     ("libc", &[]),
@@ -179,4 +225,9 @@ pub const KIT: [(&str, &[&str]); 9] = [
 ];
 
 /// What of `std` any crate may name, since it neither reads nor writes.
-pub const STD: [&str; 1] = ["num"];
+pub const STD: [&str; 4] = ["error", "fmt", "mem", "num"];
+
+/// What of `std` the demonstration brings in besides, and what of `io` it may then name.
+pub const PRINTING: [&str; 3] = ["std::array", "std::io", "std::io::Print"];
+
+pub const OF_IO: &str = "Result";

@@ -1,16 +1,15 @@
 //! Rule `session`: the session program (`program.rs`). What it hears from standard input goes on as it was heard, and
 //! what it says is what the session put into the output: each of its functions calls what `CALLS` says, as often as it
-//! says, and nothing else; the statements of `WRITTEN` stand there one after the other; and the verdicts, the streams
-//! and what reads and writes them are named where `NAMED` says. No crate but this one and the demonstration names what
-//! reads and writes (`kit.rs`).
+//! says, and nothing else; the statements of `WRITTEN` stand there one after the other; and the verdicts, what reads
+//! and writes, and what is read from and written to, are named where `NAMED` says. No crate but this one and the
+//! demonstration names what reads and writes (`kit.rs`).
 
 use crate::kit;
-use crate::program::{
-    BROUGHT, CALLS, CRATE, FILE, FUNCTIONS, KIT, LENT, NAMED, PARAMETERS, STREAMS, TABLES, WHOLE, WRITTEN,
-};
+use crate::program::{BESIDE, BROUGHT, CALLS, CRATE, FILE, FUNCTIONS, KIT, LENT, NAMED, PARAMETERS, WRITTEN};
 use crate::shape::{arguments, is_keyword, statements};
 use crate::source::{File, Finding, Function, Sources};
 use crate::tokens::{each_list, is_written, mentions, Tree};
+use std::collections::BTreeSet;
 
 /// Words that are counted with the calls: no statement is made to depend on something by another one.
 const BRANCHES: [&str; 8] = ["while", "loop", "for", "if", "match", "return", "break", "continue"];
@@ -21,7 +20,6 @@ pub fn rule(sources: &Sources) -> Vec<Finding> {
         kit::report(sources, file, &mut found);
         if file.krate == CRATE {
             brought_in(file, &mut found);
-            declared(file, &mut found);
         }
     }
     let own: Vec<&Function> = sources.functions.iter().filter(|function| function.krate == CRATE).collect();
@@ -39,7 +37,7 @@ pub fn rule(sources: &Sources) -> Vec<Finding> {
         for (_, wanted) in WRITTEN.iter().filter(|(name, _)| function.title() == *name) {
             written(sources, function, wanted, &mut found);
         }
-        whole(function, &mut found);
+        parameters(function, &mut found);
     }
     named(sources, &own, &mut found);
     found
@@ -70,30 +68,12 @@ fn brought_in(file: &File, found: &mut Vec<Finding>) {
     }
 }
 
-/// The streams' numbers. That each is named once outside of all functions is said by `NAMED`.
-fn declared(file: &File, found: &mut Vec<Finding>) {
-    let items: Vec<&[Tree]> = file.trees.split_inclusive(|tree| tree.is_sign(";")).collect();
-    for text in STREAMS {
-        let ends_so = |item: &[Tree]| (0..item.len()).any(|at| is_written(&item[at..], text));
-        if !items.iter().any(|item| ends_so(item)) {
-            let name = text.split([' ', ':']).nth(1).unwrap_or_default();
-            let line = mentions(&file.trees, name).first().copied().unwrap_or(1);
-            found.push(Finding::new(&file.path, line, format!("`{text}` is to stand here")));
-        }
-    }
-}
-
-/// The first parameter of a function, by `PARAMETERS`, and the whole of its body, by `WHOLE`.
-fn whole(function: &Function, found: &mut Vec<Finding>) {
+/// The parameters of a function, by `PARAMETERS`.
+fn parameters(function: &Function, found: &mut Vec<Finding>) {
     for (_, name, kind) in PARAMETERS.iter().filter(|(title, _, _)| function.title() == *title) {
-        if !function.params.first().is_some_and(|first| first.name == *name && is_written(&first.kind, kind)) {
-            let what = format!("the first parameter of `{}` is to be `{name}: {kind}`", function.title());
+        if !function.params.iter().any(|param| param.name == *name && is_written(&param.kind, kind)) {
+            let what = format!("a parameter of `{}` is to be `{name}: {kind}`", function.title());
             found.push(function.finding(function.line, what));
-        }
-    }
-    for (title, text) in WHOLE.iter().filter(|(title, _)| function.title() == *title) {
-        if !is_written(&function.body, text) {
-            found.push(function.finding(function.line, format!("`{title}` is to be `{text}`")));
         }
     }
 }
@@ -118,8 +98,8 @@ fn called(function: &Function, found: &mut Vec<Finding>) {
     }
 }
 
-/// What is called in a body, each by its path, and its branches. `.len()` is left out; what is called without a name is
-/// `?`.
+/// What is called in a body, each by its path, macros with their sign, and its branches. `.len()` is left out; what is
+/// called without a name is `()`.
 fn calls(body: &[Tree]) -> Vec<(String, usize)> {
     let mut out = Vec::new();
     each_list(body, &mut |list| {
@@ -129,12 +109,14 @@ fn calls(body: &[Tree]) -> Vec<(String, usize)> {
             let makes =
                 next(1).is_some_and(|next| next.is_sign("!")) && next(2).is_some_and(|next| next.inner().is_some());
             let unnamed = list[at].inner().is_some() && next(1).is_some_and(|next| next.group('(').is_some());
-            if BRANCHES.contains(&word) {
-                out.push((word.to_string(), list[at].line));
+            if BRANCHES.contains(&word) || list[at].is_sign("?") {
+                out.push((list[at].sign().unwrap_or(word).to_string(), list[at].line));
             } else if arguments(list, at).is_some() && path(list, at) != ".len" {
                 out.push((path(list, at), list[at].line));
-            } else if unnamed || (makes && !word.is_empty() && !is_keyword(word)) {
-                out.push((format!("{word}?"), list[at].line));
+            } else if unnamed {
+                out.push(("()".to_string(), list[at].line));
+            } else if makes && !word.is_empty() && !is_keyword(word) {
+                out.push((format!("{word}!"), list[at].line));
             }
         }
     });
@@ -157,9 +139,9 @@ fn path(list: &[Tree], at: usize) -> String {
 }
 
 /// Statements that are to stand in a function one after the other, once. Where they do not, the finding is at the first
-/// one that is another, after the most that are as they should be.
+/// one that is another, after the most that are as they should be. But in `BESIDE` they are to be the whole body.
 fn written(sources: &Sources, function: &Function, wanted: &[&str], found: &mut Vec<Finding>) {
-    let wanted: Vec<String> = wanted.iter().map(|text| text.replace("LENT", LENT).replace("TABLES", TABLES)).collect();
+    let wanted: Vec<String> = wanted.iter().map(|text| text.replace("LENT", LENT)).collect();
     let mut whole = 0;
     let (mut most, mut line) = (0, function.line);
     each_list(&function.body, &mut |list| {
@@ -177,6 +159,9 @@ fn written(sources: &Sources, function: &Function, wanted: &[&str], found: &mut 
     if whole != 1 {
         let what = format!("`{}` is to stand here, in `{}`", wanted[most], function.title());
         found.push(function.finding(line, what));
+    } else if function.title() != BESIDE && !is_written(&function.body, &wanted.join(" ")) {
+        let what = format!("in `{}` nothing is to stand beside the statements that are to", function.title());
+        found.push(function.finding(function.line, what));
     }
 }
 
@@ -204,10 +189,13 @@ fn named(sources: &Sources, own: &[&Function], found: &mut Vec<Finding>) {
             found.push(Finding::new(FILE, line, what));
         }
     }
+    let last = |path: &'static str| path.rsplit(['.', ':']).next().unwrap_or_default().trim_end_matches('!');
     let others = CALLS.iter().filter_map(|(_, path, _)| path.strip_prefix("session::stream::"));
-    for name in FUNCTIONS.into_iter().chain(others) {
-        let calls = CALLS.iter().filter(|(_, path, _)| path.rsplit("::").next() == Some(name));
-        let wanted = calls.map(|(_, _, times)| times).sum::<usize>() + usize::from(FUNCTIONS.contains(&name));
+    let names: BTreeSet<&str> = FUNCTIONS.into_iter().map(last).chain(others).collect();
+    for name in names.into_iter().filter(|name| !NAMED.iter().any(|(word, _, _)| word == name)) {
+        let calls = CALLS.iter().filter(|(_, path, _)| last(path) == name);
+        let defined = FUNCTIONS.into_iter().filter(|title| last(title) == name).count();
+        let wanted = calls.map(|(_, _, times)| times).sum::<usize>() + defined;
         let lines = all(name);
         if lines.len() != wanted {
             let what = format!("`{name}` is named {} times, not {wanted}", lines.len());

@@ -1,8 +1,9 @@
 //! The sources: every file of crates/*/src, its functions, the types that it declares and what it brings in by `use`.
 
 use crate::brought::{brought, Brought};
-use crate::forms;
-use crate::tokens::{begins, each_list, read, split, Tree};
+use crate::derives::{self, Derived};
+use crate::tokens::{begins, each_list, read_all, split, Tree};
+use crate::{erased, forms};
 use std::collections::BTreeMap;
 use std::fs;
 use std::path::{Path, PathBuf};
@@ -44,6 +45,11 @@ pub struct Function {
     pub owner: Option<String>,
     pub name: String,
     pub open: Open,
+    /// Its type parameters.
+    pub generics: Vec<String>,
+    /// Whether it is a method, which takes `self`.
+    pub takes_self: bool,
+    /// Without `self`.
     pub params: Vec<Param>,
     pub body: Vec<Tree>,
 }
@@ -75,11 +81,22 @@ pub struct File {
     pub uses: Vec<Brought>,
 }
 
+/// A struct or an enum.
+#[derive(Debug)]
+pub struct Declared {
+    pub krate: String,
+    pub name: String,
+    /// All that stands behind its name.
+    pub body: Vec<Tree>,
+}
+
 #[derive(Debug, Default)]
 pub struct Sources {
     pub files: Vec<File>,
     pub functions: Vec<Function>,
-    /// Names of structs and enums.
+    pub declared: Vec<Declared>,
+    pub derived: Vec<Derived>,
+    /// Names of structs and enums, and of those cases of enums that have fields.
     pub types: Vec<String>,
     /// `i32`, and the names that stand for it.
     pub i32s: Vec<String>,
@@ -123,16 +140,18 @@ impl Sources {
     pub fn of(texts: &Texts) -> Result<Sources, Finding> {
         let mut sources = Sources { i32s: vec!["i32".to_string()], ..Sources::default() };
         for (path, text) in texts {
-            let trees = read(text).map_err(|line| {
+            let all = read_all(text).map_err(|line| {
                 Finding::new(
                     path,
                     line,
                     "this cannot be read: brackets do not match, or a string is of a kind that is not known",
                 )
             })?;
+            let trees = erased::code(&all);
             if let Some((line, what)) = forms::in_items(&trees, '{') {
                 return Err(Finding::new(path, line, what));
             }
+            sources.derived.extend(derives::of_file(path, &all)?);
             let krate = path.split('/').nth(1).unwrap_or_default().to_string();
             let mut file = File { krate, path: path.clone(), trees: Vec::new(), uses: Vec::new() };
             sources.items(&trees, None, &mut file)?;
@@ -140,7 +159,10 @@ impl Sources {
             sources.files.push(file);
         }
         sources.name_i32s();
-        Ok(sources)
+        match derives::of_a_holder(&sources) {
+            Some(finding) => Err(finding),
+            None => Ok(sources),
+        }
     }
 
     /// The items of a module or of an `impl`.
@@ -160,16 +182,16 @@ impl Sources {
                 "fn" => self.function(trees, start, at, owner, file)?,
                 "impl" | "mod" => {
                     let end = end_of_item(trees, at).ok_or_else(unknown)?;
+                    let name = if keyword == "impl" { Some(implemented(&trees[at..end], file)?) } else { owner };
                     if let Some(inner) = trees[end].group('{') {
-                        let name = next.word().filter(|_| keyword == "impl");
-                        self.items(inner, name.or(owner), file)?;
+                        self.items(inner, name, file)?;
                     }
                     end + 1
                 }
                 "struct" | "enum" | "const" | "type" | "use" => {
                     let end = end_of_item(trees, at).ok_or_else(unknown)?;
                     if keyword == "struct" || keyword == "enum" {
-                        self.types.extend(next.word().map(str::to_string));
+                        self.declare(keyword, next.word().ok_or_else(unknown)?, &trees[at + 2..=end], file);
                     }
                     if keyword == "use" {
                         brought(&trees[at + 1..end], &[], &mut file.uses);
@@ -180,6 +202,15 @@ impl Sources {
             };
         }
         Ok(())
+    }
+
+    fn declare(&mut self, keyword: &str, name: &str, body: &[Tree], file: &File) {
+        self.types.push(name.to_string());
+        let cases = body.last().and_then(|last| last.group('{')).filter(|_| keyword == "enum");
+        let with_fields = |case: &&[Tree]| case.get(1).is_some_and(|next| next.group('{').is_some());
+        let named = split(cases.unwrap_or_default(), ",").into_iter().filter(with_fields);
+        self.types.extend(named.filter_map(|case| case[0].word()).map(str::to_string));
+        self.declared.push(Declared { krate: file.krate.clone(), name: name.to_string(), body: body.to_vec() });
     }
 
     /// The function whose `fn` stands at `at`. Returned is where the next item begins.
@@ -208,6 +239,16 @@ impl Sources {
             Some(place) if trees[start + place + 1].group('(').is_some() => Open::Crate,
             Some(_) => Open::Everywhere,
         };
+        let generics = forms::parameters(trees, at + 2).unwrap_or_default();
+        let generics = split(generics, ",").into_iter().filter_map(forms::type_parameter).map(str::to_string);
+        let (mut read, mut takes_self) = (Vec::new(), false);
+        for part in split_types(trees[params].group('(').unwrap_or_default()) {
+            match param(part) {
+                Some(param) => read.push(param),
+                None if is_self(part) => takes_self = true,
+                None => return Err(Finding::new(&file.path, part[0].line, "a parameter that this guard cannot read")),
+            }
+        }
         self.functions.push(Function {
             krate: file.krate.clone(),
             file: file.path.clone(),
@@ -215,7 +256,9 @@ impl Sources {
             owner: owner.map(str::to_string),
             name,
             open,
-            params: split(trees[params].group('(').unwrap_or_default(), ",").into_iter().filter_map(param).collect(),
+            generics: generics.collect(),
+            takes_self,
+            params: read,
             body,
         });
         Ok(end + 1)
@@ -247,11 +290,13 @@ impl Sources {
         self.types.iter().any(|name| name == word)
     }
 
-    /// Whether a bracketed group is a slice or an array of `i32`: `[i32]`, `[i32; 3]`, `[0i32; 3]`.
+    /// Whether a bracketed group is a slice or an array of `i32`: `[i32]`, `[i32; 3]`, `[0i32; 3]`. One of what a type
+    /// parameter stands for may be one.
     pub fn is_i32_table(&self, tree: &Tree) -> bool {
         let Some(element) = tree.group('[').and_then(path_end) else { return false };
         let number = element.starts_with(|c: char| c.is_ascii_digit()) && element.ends_with("i32");
-        number || self.i32s.iter().any(|name| name == element)
+        let stands_for = self.functions.iter().any(|function| function.generics.iter().any(|name| name == element));
+        number || stands_for || self.i32s.iter().any(|name| name == element)
     }
 }
 
@@ -274,6 +319,58 @@ fn end_of_item(trees: &[Tree], at: usize) -> Option<usize> {
     let ends_late = |tree: &Tree| tree.is_sign(";");
     let place = if braces_go_on { trees[at..].iter().position(ends_late) } else { trees[at..].iter().position(ends) };
     place.map(|place| at + place)
+}
+
+/// The traits that a type of the repository may have. What they are asked by is a call by name, but for `into` and
+/// `try_into` (`follow.rs`).
+const TRAITS: [&str; 6] = ["From", "TryFrom", "Iterator", "Default", "Display", "Error"];
+
+/// The type for which an `impl` stands, from its keyword up to its braces.
+fn implemented<'a>(head: &'a [Tree], file: &File) -> Result<&'a str, Finding> {
+    let unknown = |what: &str| Finding::new(&file.path, head[0].line, what);
+    let after = forms::parameters(head, 1).map_or(1, |parameters| parameters.len() + 3);
+    let mut parts = head[after..].split(|tree| tree.is_word("for")).collect::<Vec<_>>();
+    let named = parts.pop().and_then(path_start).ok_or_else(|| unknown("an `impl` for a type without a name"))?;
+    match parts[..] {
+        [] => Ok(named),
+        [of] if path_start(of).is_some_and(|name| TRAITS.contains(&name)) => Ok(named),
+        _ => Err(unknown("an `impl` of a trait that this guard does not know")),
+    }
+}
+
+/// The last word of a path that begins here, before what it is given in `<..>`.
+fn path_start(list: &[Tree]) -> Option<&str> {
+    let path = list.split(|tree| tree.is_sign("<")).next()?;
+    let plain = path.iter().all(|tree| tree.word().is_some() || tree.is_sign("::"));
+    path.last().filter(|_| plain)?.word()
+}
+
+/// The parts of a list between commas, but for those in `<..>`.
+fn split_types(list: &[Tree]) -> Vec<&[Tree]> {
+    let (mut parts, mut start, mut depth) = (Vec::new(), 0, 0);
+    for at in 0..list.len() {
+        depth += match list[at].sign() {
+            Some("<") => 1,
+            Some(">") => -1,
+            Some(">>") => -2,
+            _ => 0,
+        };
+        if list[at].is_sign(",") && depth == 0 {
+            parts.push(&list[start..at]);
+            start = at + 1;
+        }
+    }
+    if start < list.len() {
+        parts.push(&list[start..]);
+    }
+    parts
+}
+
+/// Whether a parameter is `self`, also behind a reference.
+fn is_self(part: &[Tree]) -> bool {
+    let lifetime = |i: usize| i > 0 && part[i - 1].is_sign("'");
+    let before = |i: usize| part[i].is_sign("&") || part[i].is_sign("'") || part[i].is_word("mut") || lifetime(i);
+    (0..part.len()).find(|&i| !before(i)).is_some_and(|i| part[i].is_word("self") && i + 1 == part.len())
 }
 
 /// A parameter with its type; `self` has none.

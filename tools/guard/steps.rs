@@ -20,10 +20,10 @@ const STEPS: [(&str, &str, usize); 17] = [
     ("session call", "reading", 1),
     ("pchelodar_c pchelodar_register", "register", 1),
     ("pchelodar_c pchelodar_reading", "reading", 1),
-    ("demo register", "register", 1),
-    ("demo reading", "reading", 1),
-    ("demo perform", "register", 1),
-    ("demo reading_into", "reading", 1),
+    ("pchelodar_c register", "register", 1),
+    ("pchelodar_c reading", "reading", 1),
+    ("demo Caller::perform", "register", 1),
+    ("demo Caller::read", "reading", 1),
 ];
 const NAMES: [&str; 5] = ["evict", "close", "close_open", "register", "reading"];
 

@@ -65,9 +65,13 @@ impl Tree {
 
 /// The tree of a text, or the line at which it cannot be read.
 pub fn read(text: &str) -> Result<Vec<Tree>, usize> {
+    Ok(erased::code(&read_all(text)?))
+}
+
+/// The same, with what is no code.
+pub fn read_all(text: &str) -> Result<Vec<Tree>, usize> {
     let mut reader = Reader { chars: text.chars().collect(), at: 0, line: 1 };
-    let trees = reader.trees(None)?;
-    Ok(erased::code(&trees))
+    reader.trees(None)
 }
 
 struct Reader {

@@ -1,18 +1,22 @@
 //! Rule `values`: what is read from a table of values (`follow.rs`) is compared by `compare` alone. It may be returned,
 //! stored in a table of values or in the answers, and kept in a field, where it is followed. It may not stand beside a
 //! comparison sign, in `deque`, `board` and `engine` beside an arithmetic operator, decide an `if`, a `match`, a
-//! `let .. else` or a loop, be an index, or be handed to a macro or to any function but `compare` and those of
-//! `HANDED`. A table keeps its name, and of its methods `len` alone is called; so it is with the answer places
-//! (`answers.rs`). For the extremes of the open partial, which are compared with readings, see `open_partial.rs`.
+//! `let .. else` or a loop, be an index, or be handed to a macro or to any function but `compare`, those of `HANDED`
+//! and `from` of a wider number. A table keeps its name, also as a field (`lending.rs`), and of its methods `len` alone
+//! is called; so it is with the answer places (`answers.rs`). For the extremes of the open partial, which are compared
+//! with readings, see `open_partial.rs`.
 
-use crate::follow::{is_range, Facts, View, ANSWERS, COMPARE, HANDED, TABLES, ZEROED};
+use crate::follow::{is_range, Facts, View, ANSWERS, COMPARE, HANDED, OVERWRITTEN, TABLES};
 use crate::shape::{arguments, assignments, block_after, is_keyword, operands, Assignment, COMPARISONS};
 use crate::source::{File, Finding, Sources};
 use crate::tokens::{begins, each_list, split, Tree};
-use crate::{answers, open_partial};
+use crate::{answers, forms, open_partial};
 
 /// The crates that come with the language; their functions are not looked at, and no table is lent to them.
-const KIT: [&str; 7] = ["std", "core", "check", "libc", "io", "os", "bytes"];
+const KIT: [&str; 8] = ["std", "core", "check", "libc", "io", "os", "bytes", "itoa"];
+
+/// The number, wider than a value, whose `from` may be handed one; what it returns is followed on.
+const WIDER: &str = "i64";
 
 /// Arithmetic and bit operators, `&` before a place being taken for one, and the crates in which no value stands beside
 /// one.
@@ -26,6 +30,14 @@ pub fn rule(sources: &Sources) -> Vec<Finding> {
     for file in &sources.files {
         table_names(sources, file, &file.trees, false, &mut found);
     }
+    let fields = sources.declared.iter().filter_map(|one| Some((&one.name, facts.field_of(one)?)));
+    for (name, field) in fields {
+        let derived = sources.derived.iter().filter(|one| one.name == *name && !one.traits.is_empty());
+        found.extend(derived.map(|one| {
+            let what = format!("`{}` is derived for `{name}`, where `{field}` holds a value", one.traits.join(", "));
+            Finding::new(&one.file, one.line, what)
+        }));
+    }
     for function in sources.functions.iter().filter(|function| !function.is(COMPARE)) {
         View::of(sources, &facts, function).report(&mut found);
         answers::report(sources, function, &mut found);
@@ -34,19 +46,26 @@ pub fn rule(sources: &Sources) -> Vec<Finding> {
     found
 }
 
-/// Slices and arrays of `i32` under other names. `zeroed` is whether these are the parameters of the function that
-/// fills one with zeroes.
-fn table_names(sources: &Sources, file: &File, list: &[Tree], zeroed: bool, found: &mut Vec<Finding>) {
+/// Slices and arrays of `i32` under other names. `overwrites` is whether these are the parameters of `OVERWRITTEN`.
+fn table_names(sources: &Sources, file: &File, list: &[Tree], overwrites: bool, found: &mut Vec<Finding>) {
     for at in 0..list.len() {
         let name = declared_name(list, at);
-        let known = name.is_some_and(|name| TABLES.contains(&name) || (zeroed && name == ZEROED.1));
+        let known = name.is_some_and(|name| TABLES.contains(&name) || (overwrites && name == OVERWRITTEN.1));
         if sources.is_i32_table(&list[at]) && !known {
             let what = format!("a slice or array of i32 named {}: no name of a table of values", shown(name));
             found.push(Finding::new(&file.path, list[at].line, what));
         }
-        let zeroes = at > 1 && list[at - 2].is_word("fn") && list[at - 1].is_word(ZEROED.0) && file.krate == "board";
-        table_names(sources, file, list[at].inner().unwrap_or_default(), zeroes, found);
+        let overwriting = named_before(list, at).is_some_and(|name| format!("{} {name}", file.krate) == OVERWRITTEN.0);
+        table_names(sources, file, list[at].inner().unwrap_or_default(), overwriting, found);
     }
+}
+
+/// The name of the function whose parameters stand at this place.
+fn named_before(list: &[Tree], at: usize) -> Option<&str> {
+    list[at].group('(')?;
+    let start = list[..at].iter().rposition(|tree| tree.is_word("fn"))?;
+    let after = forms::parameters(list, start + 2).map_or(start + 2, |parameters| start + parameters.len() + 4);
+    list[start + 1].word().filter(|_| after == at)
 }
 
 fn shown(name: Option<&str>) -> String {
@@ -81,6 +100,8 @@ impl View<'_> {
                 self.report_call(list, at, &mut say);
                 self.report_macro(list, at, &mut say);
                 self.report_index(list, at, &mut say);
+                self.report_fields(list, at, &mut say);
+                self.report_lending(list, at, &mut say);
             }
             for one in assignments(self.sources, list) {
                 let mut say = |what: String| found.push(self.function.finding(one.line, format!("{what}, in {name}")));
@@ -149,10 +170,10 @@ impl View<'_> {
         while start > 1 && list[start - 1].is_sign("::") {
             start -= 2;
         }
-        if list[start].word().is_some_and(|root| KIT.contains(&root)) && self.has_table(arguments) {
+        if list[start].word().is_some_and(|root| self.is_of_kit(root)) && self.has_table(arguments) {
             say(format!("a table of values is lent to `{name}` of the kit"));
         }
-        if name == "compare" || !self.has_value(arguments) {
+        if name == "compare" || widens(list, at) || !self.has_value(arguments) {
             return;
         }
         if name.starts_with(char::is_uppercase) {
@@ -173,6 +194,13 @@ impl View<'_> {
         }
     }
 
+    /// Whether a path that begins so is one of the kit, also where its file brings that in.
+    fn is_of_kit(&self, root: &str) -> bool {
+        let files = self.sources.files.iter().filter(|file| file.path == self.function.file);
+        let brought = |file: &File| file.uses.iter().any(|one| one.name() == root && KIT.contains(&one.root()));
+        KIT.contains(&root) || files.into_iter().any(brought)
+    }
+
     /// What is written by a macro, which is not seen.
     fn report_macro(&self, list: &[Tree], at: usize, say: &mut dyn FnMut(String)) {
         let Some(name) = list[at].word().filter(|word| !is_keyword(word)) else { return };
@@ -187,7 +215,8 @@ impl View<'_> {
         let is_index = |tree: &&Tree| tree.group('[').is_some() || tree.group('(').is_some();
         let after = &list[at + 1 + list[at + 1..].iter().take_while(is_index).count()..];
         let calls = begins(after, ".") && after.get(2).is_some_and(|next| next.group('(').is_some());
-        let follows = at > 0 && (is_index(&&list[at - 1]) || arguments(list, at - 1).is_some());
+        let called = |at: usize| arguments(list, at).is_some() && !widens(list, at);
+        let follows = at > 0 && (is_index(&&list[at - 1]) || called(at - 1));
         let holds = list[at].inner().filter(|_| !follows).is_some_and(|inner| self.has_value(inner));
         if calls && (holds || self.reads(list, at)) {
             say("a method of a value of a table is called".to_string());
@@ -213,9 +242,28 @@ impl View<'_> {
         if one.place.first().is_some_and(|first| first.is_sign("*")) && self.is_value(one.value) {
             say("a value of a table is stored behind a reference, where it is not followed".to_string());
         }
+        let in_brackets = match one.place {
+            [group] => group.group('(').or(group.group('[')).filter(|_| !one.is_let),
+            _ => None,
+        };
+        if in_brackets.is_some_and(|inner| !split(inner, ",").iter().all(|part| part.len() == 1)) {
+            if self.has_value(one.value) || self.has_table(one.value) {
+                say("a value of a table is stored with others, where it is not followed".to_string());
+            }
+        }
+        let set = one.place.last().and_then(Tree::word).is_some_and(|word| self.tables.contains(&word));
+        if set && !one.is_let {
+            say("a table of values is set to something else".to_string());
+        }
         let renamed = !one.names.iter().all(|name| TABLES.contains(name)) || !one.is_let;
-        if renamed && self.has_table(one.value) {
+        if renamed && self.has_loose_table(one.value) {
             say("a table of values gets another name".to_string());
         }
     }
+}
+
+/// Whether what is called here is `i64::from`: it makes a value wider and does no more.
+fn widens(list: &[Tree], at: usize) -> bool {
+    let goes_on = at > 2 && list[at - 3].is_sign("::");
+    at > 1 && list[at].is_word("from") && list[at - 1].is_sign("::") && list[at - 2].is_word(WIDER) && !goes_on
 }
