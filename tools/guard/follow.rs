@@ -12,8 +12,10 @@ use std::collections::BTreeSet;
 /// The names under which tables of values are lent, in every crate.
 pub const TABLES: [&str; 3] = ["values", "max_values", "min_values"];
 
-/// The one other name, which a parameter of this function has: it fills a table of any numbers with one of them.
+/// The one other name, which a parameter of this function has: it fills a table of any numbers with one of them. It
+/// alone calls the method `FILL`, which writes places and reads none.
 pub const OVERWRITTEN: (&str, &str) = ("board overwrite", "table");
+pub const FILL: &str = "fill";
 
 /// The answer places, which a value may be stored in, and the crates in which one that is read back is followed on.
 /// Above them answers are printed.

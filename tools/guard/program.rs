@@ -22,7 +22,7 @@ pub const FUNCTIONS: [&str; 11] = [
 
 /// What a function calls, by its path, and how often it stands there; macros, its loops, branches and returns too, `?`
 /// among them, and cases that hold something.
-pub const CALLS: [(&str, &str, usize); 48] = [
+pub const CALLS: [(&str, &str, usize); 47] = [
     ("main", "State::fresh", 1),
     ("main", ".run", 1),
     ("main", ".stdin", 1),
@@ -42,12 +42,11 @@ pub const CALLS: [(&str, &str, usize); 48] = [
     ("Memory::read_all", "?", 1),
     ("Memory::read_all", ".read", 1),
     ("Memory::read_all", ".after_read", 1),
-    ("Memory::after_read", "match", 1),
     ("Memory::after_read", "if", 1),
-    ("Memory::after_read", "return", 2),
-    ("Memory::after_read", "Ok", 3),
-    ("Memory::after_read", "Err", 2),
-    ("Memory::after_read", "?", 1),
+    ("Memory::after_read", "return", 1),
+    ("Memory::after_read", "Ok", 2),
+    ("Memory::after_read", "?", 2),
+    ("Memory::after_read", ".map_err", 1),
     ("Memory::after_read", ".feed_chunk", 1),
     ("Memory::feed_chunk", "while", 1),
     ("Memory::feed_chunk", "?", 1),
@@ -62,14 +61,14 @@ pub const CALLS: [(&str, &str, usize); 48] = [
     ("Memory::write", ".write_all", 1),
     ("Memory::conclude", "session::stream::finish", 1),
     ("Memory::conclude", ".write", 1),
-    ("after_write", "match", 1),
-    ("after_write", "Ok", 2),
-    ("after_write", "Err", 2),
+    ("after_write", ".map_err", 1),
     ("after_feed", "if", 1),
     ("after_feed", "return", 1),
     ("after_feed", "Ok", 1),
     ("after_feed", "Err", 1),
     ("Error::fmt", "match", 1),
+    ("Error::fmt", "Error::ReadFailed", 1),
+    ("Error::fmt", "Error::WriteFailed", 1),
     ("Error::fmt", "write!", 1),
 ];
 
@@ -115,7 +114,7 @@ const READ: [&str; 2] = [
     "Err(Error::TooLong)",
 ];
 const AFTER_READ: [&str; 4] = [
-    "let count = match got { Ok(count) => count, Err(_) => return Err(Error::ReadFailed) };",
+    "let count = got.map_err(Error::ReadFailed)?;",
     "if count == 0 { return Ok(0); }",
     "self.feed_chunk(&chunk[..count], output)?;",
     "Ok(count)",
@@ -134,7 +133,7 @@ const FEED: [&str; 4] = [
 const WRITE: [&str; 1] = ["after_write(output.write_all(&self.out[..at]))"];
 const CONCLUDE: [&str; 2] = ["let at = session::stream::finish(LENT, self.out);", "self.write(at, output)"];
 const REPORT: [&str; 2] = [
-    "let what = match self { Error::ReadFailed => \"\", Error::WriteFailed => \"\", Error::TooLong => \"\" };",
+    "let what = match self { Error::ReadFailed(_) => \"\", Error::WriteFailed(_) => \"\", Error::TooLong => \"\" };",
     "write!(f, \"\")",
 ];
 
@@ -166,7 +165,7 @@ pub const NAMED: [(&str, usize, &[(&str, usize)]); 22] = [
     ("stdout", 0, &[("main", 1)]),
     ("eprintln", 0, &[("main", 1)]),
     ("std", 2, &[]),
-    ("io", 4, &[]),
+    ("io", 6, &[]),
     ("fmt", 6, &[]),
     ("Read", 3, &[]),
     ("Write", 9, &[]),

@@ -3,10 +3,10 @@
 //! comparison sign, in `deque`, `board` and `engine` beside an arithmetic operator, decide an `if`, a `match`, a
 //! `let .. else` or a loop, be an index, or be handed to a macro or to any function but `compare`, those of `HANDED`
 //! and `from` of a wider number. A table keeps its name, also as a field (`lending.rs`), and of its methods `len` alone
-//! is called; so it is with the answer places (`answers.rs`). For the extremes of the open partial, which are compared
-//! with readings, see `open_partial.rs`.
+//! is called, and `fill` in `OVERWRITTEN`; so it is with the answer places (`answers.rs`). For the extremes of the open
+//! partial, which are compared with readings, see `open_partial.rs`.
 
-use crate::follow::{is_range, Facts, View, ANSWERS, COMPARE, HANDED, OVERWRITTEN, TABLES};
+use crate::follow::{is_range, Facts, View, ANSWERS, COMPARE, FILL, HANDED, OVERWRITTEN, TABLES};
 use crate::shape::{arguments, assignments, block_after, is_keyword, operands, Assignment, COMPARISONS};
 use crate::source::{File, Finding, Sources};
 use crate::tokens::{begins, each_list, split, Tree};
@@ -157,7 +157,8 @@ impl View<'_> {
         let is_part = list.get(at + 1).and_then(|next| next.group('[')).is_some_and(is_range);
         let after = &list[(at + 1 + usize::from(is_part)).min(list.len())..];
         let is_table = list[at].word().is_some_and(|word| self.tables.contains(&word));
-        if is_table && begins(after, ".") && !begins(after, ". len (") {
+        let fills = self.fills(list, at + 2 + usize::from(is_part));
+        if is_table && begins(after, ".") && !begins(after, ". len (") && !fills {
             say("something else than the length of a table of values is asked for".to_string());
         }
     }
@@ -173,7 +174,7 @@ impl View<'_> {
         if list[start].word().is_some_and(|root| self.is_of_kit(root)) && self.has_table(arguments) {
             say(format!("a table of values is lent to `{name}` of the kit"));
         }
-        if name == "compare" || widens(list, at) || !self.has_value(arguments) {
+        if name == "compare" || widens(list, at) || self.fills(list, at) || !self.has_value(arguments) {
             return;
         }
         if name.starts_with(char::is_uppercase) {
@@ -192,6 +193,15 @@ impl View<'_> {
                 say(format!("a value of a table is handed to `{name}`"));
             }
         }
+    }
+
+    /// Whether what is called at this place is `FILL` of the table of `OVERWRITTEN`, or of a part of it.
+    fn fills(&self, list: &[Tree], at: usize) -> bool {
+        let called = list.get(at).is_some_and(|tree| tree.is_word(FILL)) && arguments(list, at).is_some();
+        let Some(dot) = at.checked_sub(1).filter(|&dot| called && list[dot].is_sign(".")) else { return false };
+        let part = dot > 0 && list[dot - 1].group('[').is_some_and(is_range);
+        let table = list[..dot - usize::from(part)].last().is_some_and(|tree| tree.is_word(OVERWRITTEN.1));
+        table && self.function.is(OVERWRITTEN.0)
     }
 
     /// Whether a path that begins so is one of the kit, also where its file brings that in.

@@ -11,7 +11,7 @@ use Rattle.window.specs.Orders.{ge_z}
 use Rattle.window.proofs.Standing.{closing_cost, standing_nonempty}
 use Rattle.board.specs.declared.aggregate.Aggregate.{Aggregate}
 use Rattle.board.specs.Aggregates.{maximum_of, minimum_of, entry_by, entries_by, Rising, Before}
-use Rattle.board.specs.Ledgers.{Ledger, nothing_closed, close_with, closing_comparisons, Amortized, Consistent}
+use Rattle.board.specs.Ledgers.{Ledger, close_with, closing_comparisons, Amortized, Consistent}
 use Rattle.board.proofs.Lists.{entries_from_lem, entries_snoc, rising_snoc, rising_sorted}
 
 module _ (below : ℤ → ℤ → Bool) (f : Aggregate → ℤ) (m h : ℕ) (a : Aggregate) where
@@ -33,12 +33,7 @@ module _ (below : ℤ → ℤ → Bool) (f : Aggregate → ℤ) (m h : ℕ) (a :
 pub amortized_bound : (below : ℤ → ℤ → Bool) (f : Aggregate → ℤ) (m : ℕ) (cs : List Aggregate) → Amortized below f m cs → m ≤ 2 * length cs - 2
 amortized_bound below f m cs k = omega (arith, k.bound, k.some_stand)
 
--- the ledger in which nothing is closed
-pub nothing_consistent : Consistent nothing_closed
-nothing_consistent =
-    record { rising = tt; max_amortized = record { bound = zero-le; some_stand = zero-le }; min_amortized = record { bound = zero-le; some_stand = zero-le } }
-
--- and with a closed, that starts after all
+-- a ledger with one more closed, that starts after all
 pub closed-consistent : (h : ℕ) (a : Aggregate) (l : Ledger) → Consistent l → Before a.start l.closed → Consistent (close_with h a l)
 closed-consistent h a l k before =
     record {

@@ -51,7 +51,8 @@ module _ {A : Type 0} (nought : A) where
   replicate_more zero rest = refl
   replicate_more (suc p) rest = ap (λ (r : List A). nought ∷ r) (replicate_more p rest)
 
-  -- a table with its first p places zeroed and then place p has its first p + 1 zeroed
+  -- a table with its first p places zeroed and then place p has its first p + 1 zeroed. No proof needs it today; it is a
+  -- law that documents named
   pub zero_more : (t now : List A) (p : ℕ) → p < length t → now ≡ replicate p nought ++ drop p t → set now p nought ≡ replicate (p + 1) nought ++ drop (p + 1) t
   zero_more t now p l e =
       rw (e, add-one p, drop-cons t p nought l)

@@ -33,12 +33,11 @@ pub struct SharedTables<'a> {
 
 // The first 4,096 places of a table become this.
 fn overwrite<T: Copy>(table: &mut [T], nought: T)
-    requires { capacity ≤ length table.old }
+    requires long { capacity ≤ length table.old }
+    requires copied { T.is_infallible nought × ((y : T) → T.is_clone nought y → y ≡ nought) }
     ensures { table.new ≡ zeroed nought table.old }
 {
-    for p in 0..CAPACITY {
-        table[p] = nought;
-    }
+    table[..CAPACITY].fill(nought);
 }
 
 impl LentTables<'_> {

@@ -10,7 +10,7 @@ use engine::calls::Tally;
 use engine::state::State;
 use lent::calls;
 use registry::list::RECORDS;
-use window::query::Query;
+use window::query::{Query, Registration};
 use window::refusal::Refusal;
 
 // The engine's state, the query list and the tables.
@@ -44,14 +44,17 @@ impl Caller<'_> {
                 Ok(Returned::Zero)
             }
             Call::Register(number, kind, range, slide) => {
-                self.state = calls::register(
-                    self.state,
-                    &mut self.queries,
-                    &mut self.tables,
+                let asked = Registration {
                     number,
                     kind,
                     range,
                     slide,
+                };
+                self.state = calls::register(
+                    self.state,
+                    &mut self.queries,
+                    &mut self.tables,
+                    asked,
                 )?;
                 Ok(Returned::Zero)
             }

@@ -118,15 +118,13 @@ module _ (starts : List ℕ) (values : List ℤ) (r : Ring) where
   pub entries_evicted : (h : ℕ) (kept : Ring) → kept ≡ advanced (count_before h (starts_of starts r)) r → entries_of starts values kept ≡ evicted h (entries_of starts values r)
   entries_evicted h kept e = evicted-view (entry_at starts values) starts (λ p. refl) r h kept e
 
-  -- what the search found, where the entries are sorted
-  module _ (from first : ℕ) (found : IsNonDecreasing (starts_of starts r) → first ≡ count_before from (starts_of starts r)) (sorted : Sorted (entries_of starts values r)) where
-    found_first : first ≡ count_before from (starts_of starts r)
-    found_first = found (sorted_view (entry_at starts values) starts (λ p. refl) r sorted)
+  module _ (from : ℕ) where
+    -- entry `first` was found: its value
+    pub first_value : (first : ℕ) → (IsNonDecreasing (starts_of starts r) → first ≡ count_before from (starts_of starts r)) → Sorted (entries_of starts values r)
+        → first < r.len → get_or values (place r.head first) (pos 0) ≡ front_of (pos 0) (evicted from (entries_of starts values r))
+    first_value first found sorted = front_found (entry_at starts values) starts (λ p. refl) r from first (found (sorted_view (entry_at starts values) starts (λ p. refl) r sorted)) (pos 0)
 
-    -- an entry: its value
-    pub first_value : first < r.len → get_or values (place r.head first) (pos 0) ≡ front_of (pos 0) (evicted from (entries_of starts values r))
-    first_value = front_found (entry_at starts values) starts (λ p. refl) r from first found_first (pos 0)
-
-    -- none
-    pub no_value : r.len ≤ first → pos 0 ≡ front_of (pos 0) (evicted from (entries_of starts values r))
-    no_value = front_missing (entry_at starts values) starts (λ p. refl) r from first found_first (pos 0)
+    -- none was
+    pub no_value : (IsNonDecreasing (starts_of starts r) → r.len ≤ count_before from (starts_of starts r)) → Sorted (entries_of starts values r)
+        → pos 0 ≡ front_of (pos 0) (evicted from (entries_of starts values r))
+    no_value none sorted = front_missing (entry_at starts values) starts (λ p. refl) r from (count_before from (starts_of starts r)) refl (pos 0) (none (sorted_view (entry_at starts values) starts (λ p. refl) r sorted))

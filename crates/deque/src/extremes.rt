@@ -98,12 +98,9 @@ impl Deque {
         ensures { Sorted (entries_of starts.now values.now self.ring)
             → result ≡ front_of (pos 0) (evicted from (entries_of starts.now values.now self.ring)) }
     {
-        let first = self.ring.search(starts, from);
-        if first < self.ring.len {
-            let place = self.ring.place(first);
-            values[place]
-        } else {
-            0
-        }
+        let Some(place) = self.ring.first_from(starts, from) else {
+            return 0;
+        };
+        values[place]
     }
 }

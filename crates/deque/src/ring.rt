@@ -1,5 +1,5 @@
 // A ring over the first 4,096 places of lent tables: where its entries stand, evicting the oldest, and one entry more.
-ghost use Rattle.std.specs.Prelude.{◌≡◌, ◌+◌, ◌-◌, ◌<◌, ◌≤◌, ◌↔◌, IsTrue, length, set};
+ghost use Rattle.std.specs.Prelude.{◌≡◌, ℕ, ◌+◌, ◌-◌, ◌<◌, ◌≤◌, ◌↔◌, IsTrue, MatchOption, length, set};
 ghost use Rattle.std.specs.List.Sorted.{IsNonDecreasing};
 ghost use Rattle.deque.specs.Rings.{capacity, place, Fits, starts_of, advanced, with_room, grown, count_before};
 
@@ -63,18 +63,20 @@ impl Ring {
         self
     }
 
-    // How many entries come before the first that starts at `from` or later, where starts never fall.
-    pub(crate) fn search(self, starts: &[Count], from: Count) -> usize
+    // The place of the first entry that starts at `from` or later, where starts never fall; None where none does.
+    pub(crate) fn first_from(self, starts: &[Count], from: Count) -> Option<usize>
         requires { Fits self × (capacity ≤ length starts.now) }
-        ensures within { result ≤ self.len }
-        ensures found { IsNonDecreasing (starts_of starts.now self)
-            → result ≡ count_before from (starts_of starts.now self) }
+        ensures { MatchOption result
+            (IsNonDecreasing (starts_of starts.now self) → self.len ≤ count_before from (starts_of starts.now self))
+            (λ p. (j : ℕ) × (j < self.len) × (p ≡ place self.head j)
+            × (IsNonDecreasing (starts_of starts.now self) → j ≡ count_before from (starts_of starts.now self))) }
     {
         let entries = Starts {
             ring: self,
             table: starts,
         };
-        entries.search(from)
+        let first = entries.search(from);
+        (first < self.len).then(|| self.place(first))
     }
 
     // With room for one entry more: a full ring drops its oldest. Where the ring holds live partials alone, there is

@@ -115,12 +115,9 @@ impl Sums {
             → InBounds sums.now self
             → result ≡ sum (map value_of (evicted from (partials_of starts.now sums.now self))) }
     {
-        let ring = self.ring;
-        let first = ring.search(starts, from);
-        if ring.len <= first {
+        let Some(place) = self.ring.first_from(starts, from) else {
             return 0;
-        }
-        let place = ring.place(first);
+        };
         self.lap - ints::clamp(LAP_LIMIT, sums[place]) + self.lap_behind(place)
     }
 }

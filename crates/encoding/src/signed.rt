@@ -18,6 +18,6 @@ pub(crate) fn unsigned(x: i64) -> u64
 pub(crate) fn signed(w: u64) -> i64
     ensures { result ≡ signed w }
 {
-    let half = (w / 2) as i64;
+    let half = (w / 2).cast_signed();
     if w % 2 == 0 { half } else { -half - 1 }
 }

@@ -9,7 +9,7 @@ use lib.IntN.{ℤ}
 use lib.ListN.{length, length-append, length-map, drop}
 use Rattle.window.specs.declared.query.Query.{Query}
 use Rattle.window.specs.Lists.{filter, any, Each}
-use Rattle.window.specs.Queries.{Limits, edge, horizon}
+use Rattle.window.specs.Queries.{Limits, joining, edge, horizon}
 use Rattle.window.specs.Refusals.{Verdict, has_number, due_at, answer_places}
 use Rattle.window.specs.Calls.{IsReading, Call, register, withdraw, reading, totals, OfReading, Answer, accepted}
 use Rattle.window.specs.Model as model
@@ -81,10 +81,6 @@ accepted-call c m ns given m' passes small listed kept lists state outcome =
       list_kept = listed;
       kept = kept;
     }
-
--- the query that a registration brings to the engine
-abbrev pub joining : (number kind range slide origin : ℕ) → Query
-joining number kind range slide origin = record { number = number; kind = kind; range = range; slide = slide; origin = origin }
 
 -- an accepted registration: what is open closes, the query joins, and an empty partial is open
 pub accepted-register : (number kind range slide : ℕ) (m : Machine) (st' st'' : State) (l' : List ℕ) (t' : Tables)

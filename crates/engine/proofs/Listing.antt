@@ -3,7 +3,7 @@
 -- Assumes nothing.
 use Prim.Native.Nat.{ℕ, ◌≤◌}
 use mathlib.Core.Path.{◌≡◌, refl, ap, ap₂, ◌∙◌}
-use mathlib.Core.Bool.{Bool, true, false, ◌&&◌}
+use mathlib.Core.Bool.{true, false, ◌&&◌}
 use mathlib.Core.List.{List}
 use lib.Dec.{leb}
 use lib.ListN.{length}
@@ -35,11 +35,6 @@ long-list m e = leb-true list_places (length m.list) (and_left (leb list_places 
 pub long-tables : (m : Machine) → machine_long m ≡ true → tables_long m.tables ≡ true
 unfolding machine_long
 long-tables m e = and_right (leb list_places (length m.list)) (tables_long m.tables) e
-
--- what the code finds is check 1
-pub long_is : (m : Machine) (t b : Bool) → t ≡ tables_long m.tables → b ≡ (leb list_places (length m.list) && t) → b ≡ machine_long m
-unfolding machine_long
-long_is m t b e f = f ∙ ap (λ (x : Bool). leb list_places (length m.list) && x) e
 
 -- it still passes after a call that keeps the lengths
 pub still-long : (m : Machine) (st : State) (l : List ℕ) (t : Tables) → ListKept m.list l → TablesKept m.tables t → machine_long m ≡ true → machine_long (machine st l t) ≡ true

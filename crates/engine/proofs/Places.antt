@@ -74,10 +74,6 @@ pub record AnsweredTo {X : Type 0} (answer : X → Query → Answer) (due left :
   pub answers : (x : X) → given ++ map (answer x) left ≡ map (answer x) due
 
 module _ {X : Type 0} (answer : X → Query → Answer) (due : List Query) (before : List ℤ) where
-  -- none is answered at first
-  pub answered-none : AnsweredTo answer due due before before 0
-  answered-none = record { given = []; number = refl; written = refl; counted = omega arith; answers = λ o. refl }
-
   module _ (now : List ℤ) (k : ℕ) (room : answer_places * length due ≤ length before) where
     -- the table is as long as it was
     pub answered-kept : (left : List Query) → AnsweredTo answer due left before now k → length now ≡ length before

@@ -35,10 +35,6 @@ module _ (v : ℤ) (st taken : State) (is : taken ≡ with_reading v st) where
   pub taken-count : taken.count ≡ st.count + 1
   taken-count = ap (λ (x : State). x.count) is
 
-  -- as many queries are registered
-  pub taken-registered : taken.registered ≡ st.registered
-  taken-registered = ap (λ (x : State). x.registered) is
-
   -- no query was registered after it
   pub taken_origins : (qs : List Query) → Each (λ (q : Query). q.origin ≤ st.count) qs → Each (λ (q : Query). q.origin ≤ taken.count) qs
   taken_origins qs h =

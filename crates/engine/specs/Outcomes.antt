@@ -43,6 +43,16 @@ abbrev pub reading_state : State → Result Answered Refusal → State
 reading_state st (Ok a) = a.state
 reading_state st (Err r) = st
 
+-- n, P, M and N of a state
+abbrev pub tally_of : State → Tally
+tally_of st =
+    record {
+      count = st.count;
+      closed = st.board.closed;
+      max_comparisons = st.board.maxima.comparisons;
+      min_comparisons = st.board.minima.comparisons;
+    }
+
 -- totals returns n, P, M and N
 abbrev pub totals_outcome : Result Tally Refusal → Outcome
 totals_outcome (Ok t) = accepted (t.count ∷ t.closed ∷ t.max_comparisons ∷ t.min_comparisons ∷ []) []

@@ -5,7 +5,7 @@ ghost use Rattle.window.specs.Calls.{start, register, withdraw, reading, totals}
 ghost use Rattle.board.specs.Lending.{lent_lists, shared_lists, SameSlices};
 ghost use Rattle.engine.specs.declared.state.State.{State};
 ghost use Rattle.engine.specs.Machine.{machine};
-ghost use Rattle.engine.specs.Outcomes.{state_outcome, state_after, answers_written, reading_outcome, reading_state, totals_outcome};
+ghost use Rattle.engine.specs.Outcomes.{state_outcome, state_after, answers_written, reading_outcome, reading_state, tally_of, totals_outcome};
 ghost use Rattle.engine.specs.Promises.{StartEnsures, Ensures, ReadingEnsures};
 
 use crate::checks::{judge_entry, judge_reading, judge_register, judge_withdraw};
@@ -14,7 +14,7 @@ use board::tables::{LentTables, SharedTables};
 use registry::edit;
 use registry::list::LIST_PLACES;
 use window::count::Count;
-use window::query::Query;
+use window::query::Registration;
 use window::refusal::Refusal;
 
 // What an accepted reading comes to: the state after it, and how many answers were written.
@@ -35,6 +35,20 @@ pub struct Tally {
     pub max_comparisons: u64,
     // N
     pub min_comparisons: u64,
+}
+
+impl State {
+    // Its n, P, M and N.
+    pub fn tally(self) -> Tally
+        ensures { result ≡ tally_of self }
+    {
+        Tally {
+            count: self.count,
+            closed: self.board.closed,
+            max_comparisons: self.board.maxima.comparisons,
+            min_comparisons: self.board.minima.comparisons,
+        }
+    }
 }
 
 // Start: everything empty. The query list and the first 4,096 places of each table become 0. It is promised for
@@ -59,27 +73,17 @@ pub fn register(
     state: State,
     list: &mut [u32],
     tables: &mut LentTables<'_>,
-    number: u32,
-    kind: u32,
-    range: u32,
-    slide: u32,
+    asked: Registration,
 ) -> Result<State, Refusal>
     ensures same { SameSlices tables.old tables.new }
-    ensures called { Ensures (register number kind range slide)
+    ensures called { Ensures (register asked.number asked.kind asked.range asked.slide)
         (machine state list.old (lent_lists tables.old))
         (state_outcome result)
         (machine (state_after state result) list.new (lent_lists tables.new)) }
 {
-    let q = Query {
-        number,
-        kind,
-        range,
-        slide,
-        origin: state.count,
-    };
-    let horizon = judge_register(state, list, tables.shared(), q)?;
+    let horizon = judge_register(state, list, tables.shared(), asked)?;
     let closed = state.close_open(horizon, tables);
-    edit::append(list, state.registered, q);
+    edit::append(list, state.registered, asked.at(state.count));
     Ok(closed.with_one_more())
 }
 
@@ -108,13 +112,7 @@ pub fn totals(state: State, list: &[u32], tables: SharedTables<'_>) -> Result<Ta
         (machine state list.now (shared_lists tables.entry)) }
 {
     judge_entry(state, list, tables)?;
-    let board = state.board;
-    Ok(Tally {
-        count: state.count,
-        closed: board.closed,
-        max_comparisons: board.maxima.comparisons,
-        min_comparisons: board.minima.comparisons,
-    })
+    Ok(state.tally())
 }
 
 // Reading: it joins the readings, and that is all where no query has an edge. At an edge what is open closes, and the

@@ -13,7 +13,7 @@ use board::tables::SharedTables;
 use registry::checks::check_list;
 use registry::list::Checked;
 use window::count::Count;
-use window::query::Query;
+use window::query::Registration;
 use window::refusal::Refusal;
 
 // Checks 1 and 2. What passes is the list with the state's used records.
@@ -40,14 +40,14 @@ pub(crate) fn judge_register(
     state: State,
     list: &[u32],
     tables: SharedTables<'_>,
-    q: Query,
+    asked: Registration,
 ) -> Result<Count, Refusal>
     ensures judged { Judged (machine_long (machine state list.now (shared_lists tables.entry))) state list.now
-        (first_refusal (register_checks (used state.registered list.now) q.number q.kind q.range q.slide)) (verdict_in result) }
+        (first_refusal (register_checks (used state.registered list.now) asked.number asked.kind asked.range asked.slide)) (verdict_in result) }
     ensures passed { IfOk result (λ h. h ≡ horizon state.count (used state.registered list.now)) }
 {
     let queries = judge_entry(state, list, tables)?.queries;
-    queries.check_register(q.number, q.kind, q.range, q.slide)?;
+    queries.check_register(asked)?;
     Ok(queries.horizon(state.count))
 }
 

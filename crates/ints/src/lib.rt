@@ -21,6 +21,6 @@ pub fn clamp(bound: u64, x: i64) -> i64
     ensures small { Small bound result }
     ensures same { Small bound x → result ≡ x }
 {
-    let most = bound as i64;
+    let most = bound.cast_signed();
     x.clamp(-most, most)
 }

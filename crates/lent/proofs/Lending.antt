@@ -16,7 +16,7 @@ use Rattle.board.specs.Tables.{Tables, tables_long, KeptBeyond}
 use Rattle.engine.specs.declared.state.State.{State}
 use Rattle.engine.specs.Machine.{Machine, machine}
 use Rattle.engine.specs.Promises.{Promise, StartEnsures, Ensures, ReadingEnsures}
-use Rattle.engine.proofs.Accepting.{joining}
+use Rattle.window.specs.Queries.{joining}
 use Rattle.engine.proofs.Refusing.{refused-start}
 use Rattle.engine.proofs.Steady.{Steady, start_steady, call_steady, reading_steady}
 use Rattle.lent.specs.Lent.{lent, machine_with}

@@ -26,7 +26,7 @@ use Rattle.board.specs.Tables.{Tables, tables_long}
 use Rattle.engine.specs.declared.state.State.{State}
 use Rattle.engine.specs.Machine.{machine, machine_long, ListIs, Represents}
 use Rattle.engine.specs.Promises.{Ensures, StartEnsures, verdict_of}
-use Rattle.engine.proofs.Accepting.{joining}
+use Rattle.window.specs.Queries.{joining}
 use Rattle.engine.proofs.Listing.{still-long, zeroed-long}
 use Rattle.engine.proofs.Stepping.{accepted_step, step-judged}
 use Rattle.lent.specs.Lent.{Lent, list_long, lent_long, machine_with, lent_machine}

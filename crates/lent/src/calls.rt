@@ -20,7 +20,7 @@ use records::copy::{load, none, store};
 use records::laid::laid;
 use records::list;
 use registry::list::{LIST_PLACES, RECORDS};
-use window::query::Query;
+use window::query::{Query, Registration};
 use window::refusal::Refusal;
 
 // The first 32 records of a lent list as numbers, of which so many records are used. A list of fewer is too short.
@@ -55,27 +55,17 @@ pub fn register(
     state: State,
     queries: &mut [Query],
     tables: &mut LentTables<'_>,
-    number: u32,
-    kind: u32,
-    range: u32,
-    slide: u32,
+    asked: Registration,
 ) -> Result<State, Refusal>
     ensures same { SameSlices tables.old tables.new }
-    ensures called { OnLent (Ensures (register number kind range slide))
+    ensures called { OnLent (Ensures (register asked.number asked.kind asked.range asked.slide))
         (lent state queries.old (lent_lists tables.old))
         (state_outcome result)
         (lent (state_after state result) queries.new (lent_lists tables.new)) }
 {
     let mut numbers = lay(queries, state.registered)?;
-    let next = calls::register(state, &mut numbers, tables, number, kind, range, slide)?;
-    let query = Query {
-        number,
-        kind,
-        range,
-        slide,
-        origin: state.count,
-    };
-    list::append(queries, state.registered, query);
+    let next = calls::register(state, &mut numbers, tables, asked)?;
+    list::append(queries, state.registered, asked.at(state.count));
     Ok(next)
 }
 

@@ -26,7 +26,7 @@ number_then (Ok n) next = next n
 -- R number kind range slide
 abbrev pub register_line : List (List ℕ) → Result Line Refusal
 register_line (a ∷ b ∷ c ∷ d ∷ []) =
-    number_then (unsigned_of a) (λ number. number_then (unsigned_of b) (λ kind. number_then (unsigned_of c) (λ range. number_then (unsigned_of d) (λ slide. Ok (Register number kind range slide)))))
+    number_then (unsigned_of a) (λ number. number_then (unsigned_of b) (λ kind. number_then (unsigned_of c) (λ range. number_then (unsigned_of d) (λ slide. Ok (Register (record { number = number; kind = kind; range = range; slide = slide }))))))
 register_line _ = Err UnknownLine
 
 -- D number

@@ -5,6 +5,7 @@ ghost use Rattle.parse.specs.Lines.{parsed, register_line, withdraw_line, readin
 
 use crate::fields::Fields;
 use crate::numbers::{signed_number, unsigned_number};
+use window::query::Registration;
 use window::refusal::Refusal;
 
 // The longest line, in bytes before its end.
@@ -13,18 +14,9 @@ pub const LINE_LENGTH: usize = 64;
 // What a line asks.
 #[derive(Clone, Copy, Debug, PartialEq, Eq)]
 pub enum Line {
-    Register {
-        number: u32,
-        kind: u32,
-        range: u32,
-        slide: u32,
-    },
-    Withdraw {
-        number: u32,
-    },
-    Reading {
-        value: i32,
-    },
+    Register(Registration),
+    Withdraw { number: u32 },
+    Reading { value: i32 },
 }
 
 // R number kind range slide.
@@ -40,12 +32,12 @@ fn register_line(mut fields: Fields) -> Result<Line, Refusal>
     ) else {
         return Err(Refusal::UnknownLine);
     };
-    Ok(Line::Register {
+    Ok(Line::Register(Registration {
         number: unsigned_number(number)?,
         kind: unsigned_number(kind)?,
         range: unsigned_number(range)?,
         slide: unsigned_number(slide)?,
-    })
+    }))
 }
 
 // D number.

@@ -1,6 +1,6 @@
 // Numbers as a session line writes them: digits without a leading zero, or 0.
-ghost use Rattle.std.specs.Prelude.{◌≡◌, ◌^◌, ◌≤◌, IsTrue, IfOk, MatchOption};
-ghost use Rattle.parse.specs.Numbers.{digits, digits_value, written, number_of, unsigned_of, negative, signed_of, refusal_of};
+ghost use Rattle.std.specs.Prelude.{◌≡◌, ◌^◌, ◌≤◌, IsTrue, MatchOption};
+ghost use Rattle.parse.specs.Numbers.{digits, digits_value, written, unsigned_of, signed_of, refusal_of};
 
 use window::refusal::Refusal;
 
@@ -55,46 +55,27 @@ fn digits_value(s: &[u8]) -> Option<u32>
     Some(n)
 }
 
-// A number without a sign that may be so much at most.
-#[tactic(auto, unfolding(crate::specs::Numbers::number_of))]
-pub(crate) fn number_up_to(s: &[u8], most: u32) -> Result<u32, NumberError>
-    ensures value { result ≡ number_of most s.now }
-    ensures within { IfOk result (λ n. n ≤ most) }
+// An unsigned 32-bit number.
+#[tactic(auto, unfolding(crate::specs::Numbers::unsigned_of, crate::specs::Numbers::number_of))]
+pub(crate) fn unsigned_number(s: &[u8]) -> Result<u32, NumberError>
+    ensures { result ≡ unsigned_of s.now }
 {
     if !is_written(s) {
         return Err(NumberError::Malformed);
     }
-    digits_value(s)
-        .filter(|n| *n <= most)
-        .ok_or(NumberError::Wide)
+    digits_value(s).ok_or(NumberError::Wide)
 }
 
-// An unsigned 32-bit number.
-#[tactic(auto, unfolding(crate::specs::Numbers::unsigned_of))]
-pub(crate) fn unsigned_number(s: &[u8]) -> Result<u32, NumberError>
-    ensures { result ≡ unsigned_of s.now }
-{
-    number_up_to(s, u32::MAX)
-}
-
-// The number below 0 whose magnitude is m: a minus sign may not stand before 0.
-fn negative(m: u32) -> Result<i32, NumberError>
-    requires { m ≤ 2147483648 }
-    ensures { result ≡ negative (Ok m) }
-{
-    if m == 0 {
-        return Err(NumberError::Malformed);
-    }
-    Ok((-i64::from(m)) as i32)
-}
-
-// A signed 32-bit number.
+// A signed 32-bit number. A minus sign may not stand before 0.
 #[tactic(auto, using(crate::proofs::Digits::signs))]
 pub(crate) fn signed_number(s: &[u8]) -> Result<i32, NumberError>
     ensures { result ≡ signed_of s.now }
 {
     match s {
-        [b'-', digits @ ..] => negative(number_up_to(digits, i32::MIN.unsigned_abs())?),
-        _ => Ok(number_up_to(s, i32::MAX as u32)? as i32),
+        [b'-', digits @ ..] => match unsigned_number(digits)? {
+            0 => Err(NumberError::Malformed),
+            m => 0_i32.checked_sub_unsigned(m).ok_or(NumberError::Wide),
+        },
+        _ => i32::try_from(unsigned_number(s)?).or(Err(NumberError::Wide)),
     }
 }

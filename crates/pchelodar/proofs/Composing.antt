@@ -1,6 +1,6 @@
 -- What each function of the program hands to the next.
 -- Assumes nothing.
-use Rattle.std.proofs.Common.{ℕ, zero, suc, ◌+◌, ◌-◌, ◌<◌, ◌≤◌, ◌≡◌, refl, sym, ap, subst, ◌∙◌, arith, List, [], ◌++◌, append_assoc, append-nil, length, take, drop, length-append, take-append-drop, Option, Some, None, IfSome, OnOk, Result, Ok, Err, true}
+use Rattle.std.proofs.Common.{ℕ, zero, suc, ◌+◌, ◌-◌, ◌<◌, ◌≤◌, ◌≡◌, refl, sym, ap, subst, ◌∙◌, arith, List, [], ◌++◌, append_assoc, append-nil, length, take, drop, length-append, take-append-drop, Option, Some, None, IfSome, OnOk, Result, Ok, Err, MatchResult, true}
 use lib.Seq.{slice_empty}
 use Rattle.std.specs.Prelude.{⊤}
 use Rattle.std.proofs.lemmas.List.{take_rest}
@@ -13,18 +13,19 @@ use Rattle.session.specs.Promises.{Held, line_limit, Lent, lent_long, lent_of, O
 use Rattle.session.specs.Whole.{Fed, none, more, Reached, Carries}
 use Rattle.session.proofs.Whole.{whole_session}
 use Rattle.session.proofs.Composing.{fed_then, carries_nothing, limit_many, limit_then, limit_stopped, reached-first, ran-all}
+use Rattle.std.specs.declared.io.Error as io
 use Rattle.pchelodar.specs.declared.Error.{Error}
 use Rattle.pchelodar.specs.declared.Error.TheVariants as error
-use Rattle.pchelodar.specs.Promises.{after_write, after_feed, Wrote, FedOn, StepFed, ChunkFed, returned, read_of, count_of, brought, Failed, FoundEnd, BroughtFed, AfterRead, Heard, Intake, none, next, Known, known, ReadsFed, SomeFed, AllRead, Concludes, Ended, Concluded, WholeRun}
+use Rattle.pchelodar.specs.Promises.{after_write, after_feed, Wrote, FedOn, StepFed, ChunkFed, read_of, count_of, brought, Failed, FoundEnd, BroughtFed, AfterRead, Heard, Intake, none, next, Known, known, ReadsFed, SomeFed, AllRead, Concludes, Ended, Concluded, WholeRun}
 
 -- ---- what a write said
 
 -- what was written, by what the write said
-pub wrote : {E : Type 0} (bytes : List ℕ) (w w' : Option (List ℕ)) (said : Result ⊤ E) (p : Result ⊤ Error) → p ≡ after_write said → OnOk said (Appends w w' bytes) → Wrote bytes w w' p
+pub wrote : (bytes : List ℕ) (w w' : Option (List ℕ)) (said : Result ⊤ io.Error) (p : Result ⊤ Error) → p ≡ after_write said → OnOk said (Appends w w' bytes) → Wrote bytes w w' p
 unfolding Wrote
-wrote {E} bytes w w' said p e written = subst (Wrote bytes w w') (sym e) (go said written)
+wrote bytes w w' said p e written = subst (Wrote bytes w w') (sym e) (go said written)
   where
-    go : (s : Result ⊤ E) → OnOk s (Appends w w' bytes) → Wrote bytes w w' (after_write s)
+    go : (s : Result ⊤ io.Error) → OnOk s (Appends w w' bytes) → Wrote bytes w w' (after_write s)
     go (Ok x) a = a
     go (Err x) a = tt
 
@@ -34,8 +35,8 @@ unfolding StepFed Wrote
 step_failed bytes h h' printed w w' e p q f = subst (StepFed bytes h h' w w') (sym q) (go e f)
   where
     go : (x : Error) → Wrote printed w w' (Err x) → StepFed bytes h h' w w' (Err x)
-    go error.ReadFailed g = g
-    go error.WriteFailed g = tt
+    go (error.ReadFailed x) g = g
+    go (error.WriteFailed x) g = tt
     go error.TooLong g = absurd g
 
 -- where all was written
@@ -107,55 +108,60 @@ unfolding StepFed ChunkFed
 chunk_stopped chunk {done} rest {h₀} {h} h' {w₀} {w} w' e p q fed s = subst (ChunkFed chunk h₀ h' w₀ w') (sym q) (go e s)
   where
     go : (x : Error) → StepFed rest h h' w w' (Err x) → ChunkFed chunk h₀ h' w₀ w' (Err x)
-    go error.ReadFailed f = f
-    go error.WriteFailed f = tt
+    go (error.ReadFailed x) f = f
+    go (error.WriteFailed x) f = tt
     go error.TooLong f = limit_then (carries_fed fed) f
 
 -- ---- one read
 
+-- what is gone on with is what it returned
+pub read_on : (got : Result ℕ io.Error) (count : Result ℕ Error) (n : ℕ) → count ≡ Ok n → MatchResult got (λ x. count ≡ Ok x) (λ e. ⊥) → got ≡ Ok n
+read_on (Ok x) count n is same = cc
+read_on (Err x) count n is same = absurd same
+
 -- the bytes that it brought were fed
-pub after_fed : {E : Type 0} (got : Result ℕ E) (chunk : List ℕ) (h h' : Held) (w w' : Option (List ℕ)) (n : ℕ) → got ≡ Ok n → 0 < n → (x : ⊤) → ChunkFed (take n chunk) h h' w w' (Ok x)
+pub after_fed : (got : Result ℕ io.Error) (chunk : List ℕ) (h h' : Held) (w w' : Option (List ℕ)) (n : ℕ) → got ≡ Ok n → 0 < n → (x : ⊤) → ChunkFed (take n chunk) h h' w w' (Ok x)
     → AfterRead (read_of got chunk) h h' w w' (Ok n)
 unfolding ChunkFed BroughtFed
-after_fed {E} got chunk h h' w w' n e some x fed =
-    subst (λ (g : Result ℕ E). AfterRead (read_of g chunk) h h' w w' (Ok n)) (sym e)
-    (record { failed = λ f. absurd cc; ended = λ f. absurd (not_none cc); some = λ s. (refl, fed) })
+after_fed got chunk h h' w w' n e some x fed =
+    subst (λ (g : Result ℕ io.Error). AfterRead (read_of g chunk) h h' w w' (Ok n)) (sym e)
+    (record { failed = λ x f. absurd cc; ended = λ f. absurd (not_none cc); some = λ s. (refl, fed) })
   where
     not_none : n ≡ 0 → ⊥
     not_none z = omega (arith, z, some)
 
 -- or some of them, or none
-pub after_stopped : {E : Type 0} (got : Result ℕ E) (chunk : List ℕ) (h h' : Held) (w w' : Option (List ℕ)) (n : ℕ) → got ≡ Ok n → 0 < n → (e : Error) (p : Result ℕ Error) → p ≡ Err e
+pub after_stopped : (got : Result ℕ io.Error) (chunk : List ℕ) (h h' : Held) (w w' : Option (List ℕ)) (n : ℕ) → got ≡ Ok n → 0 < n → (e : Error) (p : Result ℕ Error) → p ≡ Err e
     → ChunkFed (take n chunk) h h' w w' (Err e) → AfterRead (read_of got chunk) h h' w w' p
 unfolding ChunkFed BroughtFed
-after_stopped {E} got chunk h h' w w' n same some e p q fed =
-    subst (λ (g : Result ℕ E). AfterRead (read_of g chunk) h h' w w' p) (sym same)
-    (subst (AfterRead (read_of {E = E} (Ok n) chunk) h h' w w') (sym q)
-    (record { failed = not_failed; ended = not_ended; some = λ s. go e fed }))
+after_stopped got chunk h h' w w' n same some e p q fed =
+    subst (λ (g : Result ℕ io.Error). AfterRead (read_of g chunk) h h' w w' p) (sym same)
+    (subst (AfterRead (read_of (Ok n) chunk) h h' w w') (sym q)
+    (record { failed = λ x. not_failed x; ended = not_ended; some = λ s. go e fed }))
   where
     not_none : n ≡ 0 → ⊥
     not_none z = omega (arith, z, some)
 
-    not_failed : {T : Type 0} → Failed (record { got = Some n; buffer = chunk }) → T
-    not_failed f = absurd cc
+    not_failed : {T : Type 0} (x : io.Error) → Failed (record { got = Ok n; buffer = chunk }) x → T
+    not_failed x f = absurd cc
 
-    not_ended : {T : Type 0} → FoundEnd (record { got = Some n; buffer = chunk }) → T
+    not_ended : {T : Type 0} → FoundEnd (record { got = Ok n; buffer = chunk }) → T
     not_ended f = absurd (not_none cc)
 
-    go : (x : Error) → ChunkFed (take n chunk) h h' w w' (Err x) → BroughtFed (record { got = Some n; buffer = chunk }) h h' w w' (Err x)
-    go error.ReadFailed f = f
-    go error.WriteFailed f = tt
+    go : (x : Error) → ChunkFed (take n chunk) h h' w w' (Err x) → BroughtFed (record { got = Ok n; buffer = chunk }) h h' w w' (Err x)
+    go (error.ReadFailed x) f = f
+    go (error.WriteFailed x) f = tt
     go error.TooLong f = f
 
-pub heard_stopped : {E : Type 0} (got : Result ℕ E) (chunk : List ℕ) (h h' : Held) (w w' : Option (List ℕ)) (n : ℕ) → got ≡ Ok n → 0 < n → (e : Error) (p : Result ℕ Error) → p ≡ Err e
+pub heard_stopped : (got : Result ℕ io.Error) (chunk : List ℕ) (h h' : Held) (w w' : Option (List ℕ)) (n : ℕ) → got ≡ Ok n → 0 < n → (e : Error) (p : Result ℕ Error) → p ≡ Err e
     → ChunkFed (take n chunk) h h' w w' (Err e) → Heard p (read_of got chunk)
 unfolding ChunkFed
-heard_stopped {E} got chunk h h' w w' n same some e p q fed =
-    subst (λ (g : Result ℕ E). Heard p (read_of g chunk)) (sym same) (subst (λ (x : Result ℕ Error). Heard x (record { got = Some n; buffer = chunk })) (sym q) (go e fed))
+heard_stopped got chunk h h' w w' n same some e p q fed =
+    subst (λ (g : Result ℕ io.Error). Heard p (read_of g chunk)) (sym same) (subst (λ (x : Result ℕ Error). Heard x (record { got = Ok n; buffer = chunk })) (sym q) (go e fed))
   where
-    go : (x : Error) → ChunkFed (take n chunk) h h' w w' (Err x) → Heard (Err x) (record { got = Some n; buffer = chunk })
-    go error.ReadFailed f = absurd f
-    go error.WriteFailed f = some
+    go : (x : Error) → ChunkFed (take n chunk) h h' w w' (Err x) → Heard (Err x) (record { got = Ok n; buffer = chunk })
+    go (error.ReadFailed x) f = absurd f
+    go (error.WriteFailed x) f = some
     go error.TooLong f = some
 
 -- ---- all reads
@@ -182,37 +188,37 @@ fed_still {bytes} {h₀} {h} h' {w₀} {w} w' fed e kept =
     appends_kept (Some x) (Some y) (Some z) bs p q = q ∙ p
 
 -- one read more
-pub read_more : {E : Type 0} {m n : ℕ} {h₀ h : Held} (h' : Held) {k₀ k : Known} (a' w' : Option (List ℕ)) (got : Result ℕ E) (buffer : List ℕ) (count : ℕ) → m ≡ n + 1 → 0 < count
+pub read_more : {m n : ℕ} {h₀ h : Held} (h' : Held) {k₀ k : Known} (a' w' : Option (List ℕ)) (got : Result ℕ io.Error) (buffer : List ℕ) (count : ℕ) → m ≡ n + 1 → 0 < count
     → ReadsFed n h₀ h k₀ k → AfterRead (read_of got buffer) h h' k.holds w' (Ok count) → Heard (Ok count) (read_of got buffer) → ReadsAtMost got buffer → ReadConsumes k.ahead a' got buffer
     → ReadsFed m h₀ h' k₀ (known a' w')
 unfolding BroughtFed
-read_more {E} {m} {n} {h₀} {h} h' {k₀} {k} a' w' got buffer count l some fed a heard most given =
+read_more {m} {n} {h₀} {h} h' {k₀} {k} a' w' got buffer count l some fed a heard most given =
     subst (λ (j : ℕ). ReadsFed j h₀ h' k₀ (known a' w')) (sym l) (go got (came count heard some) a most given)
   where
-    came : (c : ℕ) → Heard (Ok c) (read_of got buffer) → 0 < c → 0 < count_of (returned got)
+    came : (c : ℕ) → Heard (Ok c) (read_of got buffer) → 0 < c → 0 < count_of got
     came zero x s = omega (arith, s)
     came (suc c) x s = x
 
-    go : (g : Result ℕ E) → 0 < count_of (returned g) → AfterRead (read_of g buffer) h h' k.holds w' (Ok count) → ReadsAtMost g buffer → ReadConsumes k.ahead a' g buffer
+    go : (g : Result ℕ io.Error) → 0 < count_of g → AfterRead (read_of g buffer) h h' k.holds w' (Ok count) → ReadsAtMost g buffer → ReadConsumes k.ahead a' g buffer
         → ReadsFed (n + 1) h₀ h' k₀ (known a' w')
     go (Ok c) s b most taken =
         record {
           bytes = fed.bytes ++ take c buffer;
-          reads = next fed.reads (record { got = Some c; buffer = buffer }) (omega (arith, s, most.1));
+          reads = next fed.reads (record { got = Ok c; buffer = buffer }) (omega (arith, s, most.1));
           fed = fed_on fed.fed (b.some s).1;
           given = Consumes-trans k₀.ahead k.ahead a' fed.bytes (take c buffer) fed.given taken.0;
         }
     go (Err e) s b most taken = absurd (omega (arith, s))
 
 -- the input ended
-pub read_ended : {E : Type 0} {n : ℕ} (places : ℕ) {h₀ h : Held} (h' : Held) {k₀ k : Known} (a' w' : Option (List ℕ)) (got : Result ℕ E) (buffer : List ℕ) (count : ℕ) → count ≡ 0 → length buffer ≡ places
+pub read_ended : {n : ℕ} (places : ℕ) {h₀ h : Held} (h' : Held) {k₀ k : Known} (a' w' : Option (List ℕ)) (got : Result ℕ io.Error) (buffer : List ℕ) (count : ℕ) → count ≡ 0 → length buffer ≡ places
     → ReadsFed n h₀ h k₀ k → AfterRead (read_of got buffer) h h' k.holds w' (Ok count) → Heard (Ok count) (read_of got buffer) → ReadConsumes k.ahead a' got buffer
     → AllRead places h₀ h' k₀ (known a' w') (Ok tt)
 unfolding AllRead
-read_ended {E} {n} places {h₀} {h} h' {k₀} {k} a' w' got buffer count z same fed a heard given =
+read_ended {n} places {h₀} {h} h' {k₀} {k} a' w' got buffer count z same fed a heard given =
     go got (subst (λ (c : ℕ). Heard (Ok c) (read_of got buffer)) z heard) a given
   where
-    go : (g : Result ℕ E) → FoundEnd (read_of g buffer) → AfterRead (read_of g buffer) h h' k.holds w' (Ok count) → ReadConsumes k.ahead a' g buffer
+    go : (g : Result ℕ io.Error) → FoundEnd (read_of g buffer) → AfterRead (read_of g buffer) h h' k.holds w' (Ok count) → ReadConsumes k.ahead a' g buffer
         → SomeFed h₀ h' k₀ (known a' w') × (0 < places → IsAtEnd a')
     go (Ok c) found b taken =
         let none_came : c ≡ 0 = cc in
@@ -232,16 +238,16 @@ read_ended {E} {n} places {h₀} {h} h' {k₀} {k} a' w' got buffer count z same
     go (Err e) found b taken = absurd cc
 
 -- it ended before
-pub read_stopped : {E : Type 0} {n : ℕ} (places : ℕ) {h₀ h : Held} (h' : Held) {k₀ k : Known} (a' w' : Option (List ℕ)) (got : Result ℕ E) (buffer : List ℕ) (e : Error) (p : Result ⊤ Error) → p ≡ Err e
+pub read_stopped : {n : ℕ} (places : ℕ) {h₀ h : Held} (h' : Held) {k₀ k : Known} (a' w' : Option (List ℕ)) (got : Result ℕ io.Error) (buffer : List ℕ) (e : Error) (p : Result ⊤ Error) → p ≡ Err e
     → ReadsFed n h₀ h k₀ k → AfterRead (read_of got buffer) h h' k.holds w' (Err e) → Heard (Err e) (read_of got buffer) → ReadConsumes k.ahead a' got buffer
     → AllRead places h₀ h' k₀ (known a' w') p
 unfolding AllRead BroughtFed
-read_stopped {E} {n} places {h₀} {h} h' {k₀} {k} a' w' got buffer e p q fed a heard given = subst (AllRead places h₀ h' k₀ (known a' w')) (sym q) (go e a heard)
+read_stopped {n} places {h₀} {h} h' {k₀} {k} a' w' got buffer e p q fed a heard given = subst (AllRead places h₀ h' k₀ (known a' w')) (sym q) (go e a heard)
   where
-    failing : (g : Result ℕ E) → Failed (read_of g buffer) → AfterRead (read_of g buffer) h h' k.holds w' (Err error.ReadFailed) → ReadConsumes k.ahead a' g buffer → SomeFed h₀ h' k₀ (known a' w')
-    failing (Ok c) f b kept = absurd cc
-    failing (Err x) f b kept =
-        let still = b.failed f in
+    failing : (x : io.Error) (g : Result ℕ io.Error) → Failed (read_of g buffer) x → AfterRead (read_of g buffer) h h' k.holds w' (Err (error.ReadFailed x)) → ReadConsumes k.ahead a' g buffer → SomeFed h₀ h' k₀ (known a' w')
+    failing x (Ok c) f b kept = absurd cc
+    failing x (Err y) f b kept =
+        let still = b.failed x f in
         record {
           number = n;
           fed = record {
@@ -253,8 +259,8 @@ read_stopped {E} {n} places {h₀} {h} h' {k₀} {k} a' w' got buffer e p q fed 
         }
 
     go : (x : Error) → AfterRead (read_of got buffer) h h' k.holds w' (Err x) → Heard (Err x) (read_of got buffer) → AllRead places h₀ h' k₀ (known a' w') (Err x)
-    go error.ReadFailed b f = failing got f b given
-    go error.WriteFailed b f = tt
+    go (error.ReadFailed x) b f = failing x got f b given
+    go (error.WriteFailed x) b f = tt
     go error.TooLong b f = limit_then (carries_fed fed.fed) (b.some f)
 
 -- no read is left
@@ -272,8 +278,8 @@ concludes {h} {old} {new} {left} {filled} w w' p f = go p
   where
     go : (q : Result ⊤ Error) → Wrote (take filled new) w w' q → Concludes h old left new w w' q
     go (Ok x) a = record { filled = filled; finish = f; written = a }
-    go (Err error.ReadFailed) a = a
-    go (Err error.WriteFailed) a = tt
+    go (Err (error.ReadFailed x)) a = a
+    go (Err (error.WriteFailed x)) a = tt
     go (Err error.TooLong) a = a
 
 -- by what the reads came to, and the totals
@@ -282,11 +288,6 @@ pub ended_reads : {t : Lent} {h : Held} (h' : Held) (places : ℕ) (left : Lent)
 ended_reads {t} {h} h' places left new k k' k'' e p q opens read =
     record { first = h; opens = opens; read = Err e; last = h'; midway = k'; reads = read; old = []; totals = Err e; concludes = tt; ends = q }
 
-pub ended_totals : {t : Lent} {h : Held} (h' : Held) (places : ℕ) (old new : List ℕ) (left : Lent) (k k' k'' : Known) (x : ⊤) (p : Result ⊤ Error) → OpenEnsures t h → AllRead places h h' k k' (Ok x)
-    → Concludes h' old left new k'.holds k''.holds p → Ended places t left new k k'' p
-ended_totals {t} {h} h' places old new left k k' k'' x p opens read concluded =
-    record { first = h; opens = opens; read = Ok x; last = h'; midway = k'; reads = read; old = old; totals = p; concludes = concluded; ends = refl }
-
 -- the whole session, or one that was broken off
 pub ran_broken : {t : Lent} {h : Held} (h' : Held) (k k' : Known) (places : ℕ) (new : List ℕ) (e : Error) (p : Result ⊤ Error) → p ≡ Err e → lent_long t ≡ true → kept_length ≤ length h.line → OpenEnsures t h
     → AllRead places h h' k k' (Err e) → Concluded t (lent_of h') new p
@@ -294,7 +295,7 @@ unfolding AllRead Concluded
 ran_broken {t} {h} h' k k' places new e p q long room opens read = subst (Concluded t (lent_of h') new) (sym q) (go e read)
   where
     go : (x : Error) → AllRead places h h' k k' (Err x) → Concluded t (lent_of h') new (Err x)
-    go error.ReadFailed r =
+    go (error.ReadFailed x) r =
         record {
           last = h';
           broken = record {
@@ -305,7 +306,7 @@ ran_broken {t} {h} h' k k' places new e p q long room opens read = subst (Conclu
           };
           leaves = refl;
         }
-    go error.WriteFailed r = tt
+    go (error.WriteFailed x) r = tt
     go error.TooLong r = record { last = h'; broken = r.on t [] (reached-first long room opens); leaves = refl }
 
 pub ran_all : {t : Lent} {h : Held} (h' : Held) (k k' : Known) (places : ℕ) (old new : List ℕ) (left : Lent) (w : Option (List ℕ)) (x : ⊤) (p : Result ⊤ Error) → lent_long t ≡ true
@@ -321,8 +322,8 @@ ran_all {t} {h} h' k k' places old new left w x p long room opens finish read = 
           reads = read.0.fed.reads;
           ran = ran-all finish (reached_on (reached-first long room opens) read.0.fed.fed) f.finish;
         }
-    go (Err error.ReadFailed) f = absurd f
-    go (Err error.WriteFailed) f = tt
+    go (Err (error.ReadFailed x)) f = absurd f
+    go (Err (error.WriteFailed x)) f = tt
     go (Err error.TooLong) f = absurd f
 
 -- a reader that is at its end gave all that it had

@@ -1,33 +1,34 @@
 -- What the program's functions promise: that they put the session's three functions together as its claim assumes
 -- (`Whole` of `session`), and what they decide on what `read` and `write_all` returned.
 -- Assumes nothing.
-use Rattle.std.specs.Prelude.{ℕ, zero, suc, ◌+◌, ◌<◌, ◌≡◌, List, [], ◌++◌, length, take, ⊤, Option, Some, None, Result, Ok, Err, IsOk, IsErr, OnOk}
+use Rattle.std.specs.Prelude.{ℕ, zero, suc, ◌+◌, ◌<◌, ◌≡◌, List, [], ◌++◌, length, take, ⊤, Option, Result, Ok, Err, IsOk, OnOk}
 use Rattle.std.specs.Io.KnownBytes.{Keeps, Appends, Consumes, IsAtEnd}
 use Rattle.session.specs.Meaning.{session_output}
 use Rattle.session.specs.Promises.{Held, Lent, lent_of, OpenEnsures, FinishEnsures}
 use Rattle.session.specs.Whole.{Fed, Reached, ReachedLimit, CarriesLimit, RanAll}
+use Rattle.std.specs.declared.io.Error as io
 use Rattle.pchelodar.specs.declared.Error.{Error}
 use Rattle.pchelodar.specs.declared.Error.TheVariants as error
 
 -- ---- what a write said
 
--- after_write: it failed where it said so
-abbrev pub after_write : {E : Type 0} → Result ⊤ E → Result ⊤ Error
+-- after_write: it failed where it said so, with what it said
+abbrev pub after_write : Result ⊤ io.Error → Result ⊤ Error
 after_write (Ok x) = Ok x
-after_write (Err e) = Err error.WriteFailed
+after_write (Err e) = Err (error.WriteFailed e)
 
--- a write failed exactly where it said so: what follows it, and what it said
-abbrev pub Told : {E : Type 0} → Result ⊤ Error → Result ⊤ E → Type 0
+-- a write failed exactly where it said so, and with just what it said: what follows it, and what it said
+abbrev pub Told : Result ⊤ Error → Result ⊤ io.Error → Type 0
 Told (Ok x) said = IsOk said
-Told (Err error.ReadFailed) said = IsOk said
-Told (Err error.WriteFailed) said = IsErr said
+Told (Err (error.ReadFailed e)) said = IsOk said
+Told (Err (error.WriteFailed e)) said = said ≡ Err e
 Told (Err error.TooLong) said = IsOk said
 
 -- write: these bytes were written, or the write failed
 unfoldable pub Wrote : List ℕ → Option (List ℕ) → Option (List ℕ) → Result ⊤ Error → Type 0
 Wrote bytes w w' (Ok x) = Appends w w' bytes
-Wrote bytes w w' (Err error.ReadFailed) = ⊥
-Wrote bytes w w' (Err error.WriteFailed) = Unit {0}
+Wrote bytes w w' (Err (error.ReadFailed e)) = ⊥
+Wrote bytes w w' (Err (error.WriteFailed e)) = Unit {0}
 Wrote bytes w w' (Err error.TooLong) = ⊥
 
 -- after_feed, of how many bytes were taken: a session that took none has come to its limit
@@ -45,61 +46,56 @@ pub record FedOn (bytes : List ℕ) (h h' : Held) (w w' : Option (List ℕ)) : T
 -- feed: so many bytes from the front were fed, or the limit was reached, or a write failed
 unfoldable pub StepFed : List ℕ → Held → Held → Option (List ℕ) → Option (List ℕ) → Result ℕ Error → Type 0
 StepFed bytes h h' w w' (Ok n) = FedOn (take n bytes) h h' w w'
-StepFed bytes h h' w w' (Err error.ReadFailed) = ⊥
-StepFed bytes h h' w w' (Err error.WriteFailed) = Unit {0}
+StepFed bytes h h' w w' (Err (error.ReadFailed e)) = ⊥
+StepFed bytes h h' w w' (Err (error.WriteFailed e)) = Unit {0}
 StepFed bytes h h' w w' (Err error.TooLong) = CarriesLimit h h'
 
 -- feed_chunk: all bytes of the chunk were fed, in order, or the limit was reached, or a write failed; it does not read
 unfoldable pub ChunkFed : List ℕ → Held → Held → Option (List ℕ) → Option (List ℕ) → Result ⊤ Error → Type 0
 ChunkFed chunk h h' w w' (Ok x) = FedOn chunk h h' w w'
-ChunkFed chunk h h' w w' (Err error.ReadFailed) = ⊥
-ChunkFed chunk h h' w w' (Err error.WriteFailed) = Unit {0}
+ChunkFed chunk h h' w w' (Err (error.ReadFailed e)) = ⊥
+ChunkFed chunk h h' w w' (Err (error.WriteFailed e)) = Unit {0}
 ChunkFed chunk h h' w w' (Err error.TooLong) = CarriesLimit h h'
 
 -- ---- what a read returned
 
--- one read: what it returned, how many bytes or that it failed, and the buffer as it left it
+-- one read: what it returned, how many bytes or what it failed with, and the buffer as it left it
 pub record Read : Type 0 where
-  pub got : Option ℕ
+  pub got : Result ℕ io.Error
   pub buffer : List ℕ
 
--- what it returned, whatever it failed with
-abbrev pub returned : {E : Type 0} → Result ℕ E → Option ℕ
-returned (Ok n) = Some n
-returned (Err e) = None
-
 -- the two, in this order
-abbrev pub read_of : {E : Type 0} → Result ℕ E → List ℕ → Read
-read_of got buffer = record { got = returned got; buffer = buffer }
+abbrev pub read_of : Result ℕ io.Error → List ℕ → Read
+read_of got buffer = record { got = got; buffer = buffer }
 
 -- how many bytes it brought
-abbrev pub count_of : Option ℕ → ℕ
-count_of (Some n) = n
-count_of None = 0
+abbrev pub count_of : Result ℕ io.Error → ℕ
+count_of (Ok n) = n
+count_of (Err e) = 0
 
 -- the bytes that it brought: the front of the buffer
 abbrev pub brought : Read → List ℕ
 brought r = take (count_of r.got) r.buffer
 
--- the read failed: it said so
-abbrev pub Failed : Read → Type 0
-Failed r = r.got ≡ None
+-- the read failed: it said so, with this
+abbrev pub Failed : Read → io.Error → Type 0
+Failed r e = r.got ≡ Err e
 
 -- it found the end of the input: it did not fail, and brought no byte
 abbrev pub FoundEnd : Read → Type 0
-FoundEnd r = r.got ≡ Some 0
+FoundEnd r = r.got ≡ Ok 0
 
 -- what is fed of a read that brought bytes, and how many are handed on
 unfoldable pub BroughtFed : Read → Held → Held → Option (List ℕ) → Option (List ℕ) → Result ℕ Error → Type 0
 BroughtFed r h h' w w' (Ok n) = (n ≡ count_of r.got) × FedOn (brought r) h h' w w'
-BroughtFed r h h' w w' (Err error.ReadFailed) = ⊥
-BroughtFed r h h' w w' (Err error.WriteFailed) = Unit {0}
+BroughtFed r h h' w w' (Err (error.ReadFailed e)) = ⊥
+BroughtFed r h h' w w' (Err (error.WriteFailed e)) = Unit {0}
 BroughtFed r h h' w w' (Err error.TooLong) = CarriesLimit h h'
 
 -- after_read, by what the read came to: where it failed or found the end of the input, the run ends so and nothing
 -- changes or is written; else just the bytes that it brought are fed
 pub record AfterRead (r : Read) (h h' : Held) (w w' : Option (List ℕ)) (p : Result ℕ Error) : Type 0 where
-  pub failed : Failed r → (p ≡ Err error.ReadFailed) × (h' ≡ h) × Keeps w w'
+  pub failed : (e : io.Error) → Failed r e → (p ≡ Err (error.ReadFailed e)) × (h' ≡ h) × Keeps w w'
   pub ended : FoundEnd r → (p ≡ Ok 0) × (h' ≡ h) × Keeps w w'
   pub some : 0 < count_of r.got → BroughtFed r h h' w w' p
 
@@ -107,8 +103,8 @@ pub record AfterRead (r : Read) (h h' : Held) (w w' : Option (List ℕ)) (p : Re
 abbrev pub Heard : Result ℕ Error → Read → Type 0
 Heard (Ok zero) r = FoundEnd r
 Heard (Ok (suc n)) r = 0 < count_of r.got
-Heard (Err error.ReadFailed) r = Failed r
-Heard (Err error.WriteFailed) r = 0 < count_of r.got
+Heard (Err (error.ReadFailed e)) r = Failed r e
+Heard (Err (error.WriteFailed e)) r = 0 < count_of r.got
 Heard (Err error.TooLong) r = 0 < count_of r.got
 
 -- ---- all reads
@@ -146,8 +142,8 @@ pub record SomeFed (h h' : Held) (k k' : Known) : Type 0 where
 -- where it could not be read. It stops before that only where a write failed, or at the limit
 unfoldable pub AllRead : ℕ → Held → Held → Known → Known → Result ⊤ Error → Type 0
 AllRead places h h' k k' (Ok x) = SomeFed h h' k k' × (0 < places → IsAtEnd k'.ahead)
-AllRead places h h' k k' (Err error.ReadFailed) = SomeFed h h' k k'
-AllRead places h h' k k' (Err error.WriteFailed) = Unit {0}
+AllRead places h h' k k' (Err (error.ReadFailed e)) = SomeFed h h' k k'
+AllRead places h h' k k' (Err (error.WriteFailed e)) = Unit {0}
 AllRead places h h' k k' (Err error.TooLong) = CarriesLimit h h'
 
 -- a session that was opened on this query list and these tables and fed all that so many reads brought
@@ -168,8 +164,8 @@ pub record Finished (h : Held) (old : List ℕ) (left : Lent) (new : List ℕ) (
 -- conclude: the session was finished, or a write failed
 unfoldable pub Concludes : Held → List ℕ → Lent → List ℕ → Option (List ℕ) → Option (List ℕ) → Result ⊤ Error → Type 0
 Concludes h old left new w w' (Ok x) = Finished h old left new w w'
-Concludes h old left new w w' (Err error.ReadFailed) = ⊥
-Concludes h old left new w w' (Err error.WriteFailed) = Unit {0}
+Concludes h old left new w w' (Err (error.ReadFailed e)) = ⊥
+Concludes h old left new w w' (Err (error.WriteFailed e)) = Unit {0}
 Concludes h old left new w w' (Err error.TooLong) = ⊥
 
 -- the run's end, by what the reads came to and what came of the totals: any other end of the reads than the input's is
@@ -209,8 +205,8 @@ pub record BrokenOff (Broken : Held → Type 0) (left : Lent) : Type 0 where
 -- write failed nothing is promised
 unfoldable pub Concluded : Lent → Lent → List ℕ → Result ⊤ Error → Type 0
 Concluded lent left new (Ok x) = RanReads lent left new
-Concluded lent left new (Err error.ReadFailed) = BrokenOff (ReachedReads lent) left
-Concluded lent left new (Err error.WriteFailed) = Unit {0}
+Concluded lent left new (Err (error.ReadFailed e)) = BrokenOff (ReachedReads lent) left
+Concluded lent left new (Err (error.WriteFailed e)) = Unit {0}
 Concluded lent left new (Err error.TooLong) = BrokenOff (ReachedLimit lent) left
 
 -- the claim about such a run: what was put into the output, in all, is the session of all bytes that were fed

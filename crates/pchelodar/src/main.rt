@@ -22,34 +22,31 @@ use std::{fmt, io};
 // The places of the chunk that is read into, and of the output.
 const BUFFER: usize = 65536;
 
-// What ends a run before its time.
-#[derive(Clone, Copy)]
+// What ends a run before its time, with what the read or the write failed with.
+#[derive(Drop)]
 enum Error {
-    ReadFailed,
-    WriteFailed,
+    ReadFailed(io::Error),
+    WriteFailed(io::Error),
     TooLong,
 }
 
 impl fmt::Display for Error {
     fn fmt<W: fmt::Write>(&self, f: &mut fmt::Formatter<W>) -> fmt::Result {
         let what = match self {
-            Error::ReadFailed => "standard input cannot be read",
-            Error::WriteFailed => "standard output cannot be written",
+            Error::ReadFailed(_) => "standard input cannot be read",
+            Error::WriteFailed(_) => "standard output cannot be written",
             Error::TooLong => "the input is longer than can be counted",
         };
         write!(f, "pchelodar: {what}: what was printed is not complete")
     }
 }
 
-// What follows a write: it failed where it said so.
+// What follows a write: it failed where it said so, with what it said.
 fn after_write(said: io::Result<()>) -> Result<(), Error>
     ensures by { result ≡ after_write said }
     ensures told { Told result said }
 {
-    match said {
-        Ok(()) => Ok(()),
-        Err(_) => Err(Error::WriteFailed),
-    }
+    said.map_err(Error::WriteFailed)
 }
 
 // What follows a session's call that took so many bytes: one that took none has come to its limit.
@@ -135,10 +132,7 @@ impl Memory<'_> {
             (W.contents output.old) (W.contents output.new) result }
         ensures heard { Heard result (read_of got chunk.now) }
     {
-        let count = match got {
-            Ok(count) => count,
-            Err(_) => return Err(Error::ReadFailed),
-        };
+        let count = got.map_err(Error::ReadFailed)?;
         if count == 0 {
             return Ok(0);
         }

@@ -10,6 +10,7 @@ ghost use Rattle.pchelodar_c.specs.Promises.{code_of, code_outcome, reading_code
 use crate::numbers;
 use board::tables::{LentTables, SharedTables};
 use window::count::Count;
+use window::query::Registration;
 use window::refusal::Refusal;
 
 // What a call returns in C.
@@ -80,7 +81,13 @@ pub extern "C" fn pchelodar_register(
         min_starts,
         min_values,
     };
-    code(numbers::register(state, queries, &mut tables, number, kind, range, slide))
+    let asked = Registration {
+        number,
+        kind,
+        range,
+        slide,
+    };
+    code(numbers::register(state, queries, &mut tables, asked))
 }
 
 // Withdraw: the query leaves, the others keep their order. Refused with 1, 2 and 9.
@@ -141,7 +148,13 @@ pub extern "C" fn pchelodar_reading(
         min_starts,
         min_values,
     };
-    code(numbers::reading(state, queries, &mut tables, answers, answered, value))
+    match numbers::reading(state, queries, &mut tables, answers, value) {
+        Ok(count) => {
+            *answered = count;
+            0
+        }
+        Err(refusal) => u32::from(refusal),
+    }
 }
 
 // Totals: n, P, M and N are written, changing nothing else. Refused with 1 and 2.
@@ -169,5 +182,16 @@ pub extern "C" fn pchelodar_totals(
         min_starts,
         min_values,
     };
-    code(numbers::totals(state, queries, tables, totals))
+    match numbers::totals(state, queries, tables) {
+        Ok(tally) => {
+            *totals = [
+                u64::from(tally.count),
+                u64::from(tally.closed),
+                tally.max_comparisons,
+                tally.min_comparisons,
+            ];
+            0
+        }
+        Err(refusal) => u32::from(refusal),
+    }
 }

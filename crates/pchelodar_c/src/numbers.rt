@@ -1,17 +1,20 @@
 // The five calls with the state and the query list lent as numbers: the engine's, on the state that the numbers are read
 // as. Where a call is accepted the state after it is written back; where it is refused nothing is written.
 ghost use Rattle.std.specs.Prelude.{◌≡◌, ◌≤◌, ◌<◌, length, take, MatchResult};
-ghost use Rattle.window.specs.Calls.{register, withdraw};
+ghost use Rattle.window.specs.Calls.{register, withdraw, totals};
 ghost use Rattle.board.specs.Lending.{lent_lists, shared_lists, SameSlices};
-ghost use Rattle.engine.specs.Promises.{StartEnsures, Ensures};
+ghost use Rattle.engine.specs.Outcomes.{reading_outcome, totals_outcome};
+ghost use Rattle.engine.specs.Promises.{StartEnsures, Ensures, ReadingEnsures, places_after};
 ghost use Rattle.encoding.specs.Written.{state_numbers, state_of};
 ghost use Rattle.pchelodar_c.specs.Slices.{slices};
-ghost use Rattle.pchelodar_c.specs.Promises.{code_of, code_outcome, reading_code_outcome, totals_code_outcome, OnNumbers, ReadingOnNumbers, TotalsOnNumbers};
+ghost use Rattle.pchelodar_c.specs.Promises.{code_of, code_outcome, OnNumbers};
 
 use board::tables::{LentTables, SharedTables};
 use encoding::state::{STATE_NUMBERS, load_state, store_state};
 use engine::calls;
+use engine::calls::Tally;
 use engine::state::State;
+use window::query::Registration;
 use window::refusal::Refusal;
 
 // Check 1 on the numbers of a state: whether there is room for them.
@@ -59,19 +62,16 @@ pub(crate) fn register(
     state: &mut [u64],
     queries: &mut [u32],
     tables: &mut LentTables<'_>,
-    number: u32,
-    kind: u32,
-    range: u32,
-    slide: u32,
+    asked: Registration,
 ) -> Result<(), Refusal>
     ensures same { SameSlices tables.old tables.new }
-    ensures called { OnNumbers (Ensures (register number kind range slide))
+    ensures called { OnNumbers (Ensures (register asked.number asked.kind asked.range asked.slide))
         (slices state.old queries.old (lent_lists tables.old))
         (code_outcome (code_of result))
         (slices state.new queries.new (lent_lists tables.new)) }
 {
     let before = state_in(state)?;
-    let after = calls::register(before, queries, tables, number, kind, range, slide)?;
+    let after = calls::register(before, queries, tables, asked)?;
     store_state(state, after);
     Ok(())
 }
@@ -94,45 +94,38 @@ pub(crate) fn withdraw(
     Ok(())
 }
 
-// Reading: it joins the readings, and the due queries are answered, four places each, from the first place on.
+// Reading: it joins the readings, and the due queries are answered, four places each, from the first place on. Returned
+// is how many they are.
 pub(crate) fn reading(
     state: &mut [u64],
     queries: &[u32],
     tables: &mut LentTables<'_>,
     answers: &mut [i64],
-    answered: &mut usize,
     value: i32,
-) -> Result<(), Refusal>
+) -> Result<usize, Refusal>
     ensures same { SameSlices tables.old tables.new }
-    ensures called { ReadingOnNumbers value answers.old answers.new answered.old answered.new
+    ensures called { OnNumbers (ReadingEnsures value answers.old answers.new)
         (slices state.old queries.now (lent_lists tables.old))
-        (reading_code_outcome (code_of result) answered.new answers.new)
+        (reading_outcome result answers.new)
         (slices state.new queries.now (lent_lists tables.new)) }
+    ensures places { answers.new ≡ places_after (reading_outcome result answers.new) answers.old }
 {
     let before = state_in(state)?;
     let read = calls::reading(before, queries, tables, answers, value)?;
     store_state(state, read.state);
-    *answered = read.answers;
-    Ok(())
+    Ok(read.answers)
 }
 
-// Totals: n, P, M and N are written, changing nothing else.
+// Totals: n, P, M and N, changing nothing.
 pub(crate) fn totals(
     state: &[u64],
     queries: &[u32],
     tables: SharedTables<'_>,
-    places: &mut [u64; 4],
-) -> Result<(), Refusal>
-    ensures { TotalsOnNumbers places.old places.new
+) -> Result<Tally, Refusal>
+    ensures { OnNumbers (Ensures totals)
         (slices state.now queries.now (shared_lists tables.entry))
-        (totals_code_outcome (code_of result) places.new) }
+        (totals_outcome result)
+        (slices state.now queries.now (shared_lists tables.entry)) }
 {
-    let tally = calls::totals(state_in(state)?, queries, tables)?;
-    *places = [
-        u64::from(tally.count),
-        u64::from(tally.closed),
-        tally.max_comparisons,
-        tally.min_comparisons,
-    ];
-    Ok(())
+    calls::totals(state_in(state)?, queries, tables)
 }

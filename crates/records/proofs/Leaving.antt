@@ -1,13 +1,11 @@
 -- The records that are left after a withdrawal: moved to the front of the used ones, and unused ones behind them.
 -- Assumes nothing.
 use borrow.Rule.Slice.PartMut.{put_mid}
-use Rattle.std.proofs.Common.{◌≡◌, ℕ, suc, ◌+◌, ◌-◌, ◌≤◌, ◌<◌, min, Bool, true, cond, List, [], ◌∷◌, ◌++◌, length, take, drop, set, replicate, refl, sym, ap, ap₂, ◌∙◌, arith, append_assoc, length-append, length-take, length-take-le, take_all, take-take, drop-drop}
-use Rattle.std.specs.List.{filter as std_filter}
+use Rattle.std.proofs.Common.{◌≡◌, ℕ, suc, ◌+◌, ◌-◌, ◌≤◌, ◌<◌, min, true, List, [], ◌∷◌, ◌++◌, length, take, drop, set, replicate, refl, sym, ap, ap₂, ◌∙◌, arith, append_assoc, length-append, length-take, length-take-le, take_all, take-take, drop-drop}
 use Rattle.std.proofs.Math.Seq.{take-append-add}
 use Rattle.std.proofs.lemmas.List.{set_at, take-replicate, take-append-le, take_min}
 use Rattle.std.proofs.lemmas.Slice.{drop-append-drop}
 use Rattle.window.specs.declared.query.Query.{Query}
-use Rattle.window.specs.Lists.{filter}
 use Rattle.window.specs.Refusals.{is_registered}
 use Rattle.registry.specs.Records.{record_limit, unused}
 use Rattle.records.specs.LentList.{used_of, without, filled_up, overwritten, withdrawn, withdrawn_count}
@@ -19,11 +17,6 @@ pub used_part : (xs : List Query) (count : ℕ) → take (min (min (length xs) r
 used_part xs count =
     let e : min count (length (take record_limit xs)) ≡ min (min (length xs) record_limit) count = simp length-take (omega arith) in
     ap (λ (n : ℕ). take n xs) (sym e) ∙ sym (take-take (min count (length (take record_limit xs))) record_limit xs (omega arith)) ∙ take_min count (take record_limit xs)
-
--- std's `filter` keeps the same
-pub filter_std : (p : Query → Bool) (qs : List Query) → std_filter p qs ≡ filter p qs
-filter_std p [] = refl
-filter_std p (q ∷ qs) = ap (λ (rest : List Query). cond (p q) (q ∷ rest) rest) (filter_std p qs)
 
 -- a record set behind these, which are filled up, joins them
 pub filled-joined : (qs : List Query) (q : Query) → length qs < record_limit → set (filled_up qs) (length qs) q ≡ filled_up (qs ++ (q ∷ []))

@@ -29,12 +29,6 @@ module _ {A : Type 0} where
       same : i + 1 + j ≡ i + suc j
       same = omega arith
 
-  -- the first j
-  pub take-tabulate : (f : ℕ → A) (i k j : ℕ) → j ≤ k → take j (tabulate f i k) ≡ tabulate f i j
-  take-tabulate f i k zero l = refl
-  take-tabulate f i zero (suc j) l = absurd (omega arith)
-  take-tabulate f i (suc k) (suc j) l = ap (λ (r : List A). f i ∷ r) (take-tabulate f (i + 1) k j (omega arith))
-
   -- without the first j
   pub drop-tabulate : (f : ℕ → A) (i k j : ℕ) → drop j (tabulate f i k) ≡ tabulate f (i + j) (k - j)
   drop-tabulate f i k zero = ap₂ (tabulate f) same whole

@@ -9,7 +9,7 @@ ghost use Rattle.registry.specs.Records.{list_places, list_fits};
 use crate::bits::Bits;
 use crate::list::{Checked, LIST_PLACES, ORDER, Queries, RECORDS};
 use window::count::{COUNT_LIMIT, Count};
-use window::query::NUMBER_LIMIT;
+use window::query::{NUMBER_LIMIT, Registration};
 use window::refusal::{Refusal, check_fields};
 
 // The places of an answer in the answer table.
@@ -81,18 +81,12 @@ impl Queries<'_> {
     }
 
     // Checks 3 to 8.
-    #[tactic(auto, using(crate::proofs::Verdicts::register_field, crate::proofs::Verdicts::register_taken, crate::proofs::Verdicts::register_full, crate::proofs::Verdicts::register_joins))]
-    pub fn check_register(
-        self,
-        number: u32,
-        kind: u32,
-        range: u32,
-        slide: u32,
-    ) -> Result<(), Refusal>
-        ensures { result ≡ first_refusal (register_checks (held self.entry) number kind range slide) }
+    #[tactic(auto, using(crate::proofs::Verdicts::register_taken, crate::proofs::Verdicts::register_full, crate::proofs::Verdicts::register_joins))]
+    pub fn check_register(self, asked: Registration) -> Result<(), Refusal>
+        ensures { result ≡ first_refusal (register_checks (held self.entry) asked.number asked.kind asked.range asked.slide) }
     {
-        check_fields(number, kind, range, slide)?;
-        if self.holds(number) {
+        check_fields(asked)?;
+        if self.holds(asked.number) {
             return Err(Refusal::NumberTaken);
         }
         if RECORDS <= self.used {

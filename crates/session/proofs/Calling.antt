@@ -20,6 +20,7 @@ use Rattle.engine.proofs.Places.{places-length}
 use Rattle.board.proofs.Lending.{tables-same}
 use Rattle.registry.proofs.Laying.{kept_same}
 use Rattle.parse.specs.declared.line.Line.{Line}
+use Rattle.window.specs.declared.query.Registration.{Registration}
 use Rattle.parse.specs.declared.line.Line.TheVariants.{Register, Withdraw, Reading}
 use Rattle.session.specs.Meaning.{answer_table, line_step}
 use Rattle.session.specs.Promises.{Within, CallEnsures}
@@ -41,15 +42,15 @@ done c asked m m' o t e w p =
 
 module _ (m m' : Machine) (t : List ℤ) {asked : Result Line Refusal} {line : Line} (accept : asked ≡ Ok line) where
   -- a registration that was accepted, and one that was refused
-  pub registered : {number kind range slide : ℕ} → line ≡ Register number kind range slide
-      → Ensures (register number kind range slide) m (accepted (0 ∷ []) []) m' → CallEnsures asked m (Ok 0) t m'
+  pub registered : {q : Registration} → line ≡ Register q
+      → Ensures (register q.number q.kind q.range q.slide) m (accepted (0 ∷ []) []) m' → CallEnsures asked m (Ok 0) t m'
   unfolding line_step
-  registered {number} {kind} {range} {slide} names p = rw (accept, names) (done (register number kind range slide) _ m m' (Ok 0) t (λ s. refl) (omega arith) p)
+  registered {q} names p = rw (accept, names) (done (register q.number q.kind q.range q.slide) _ m m' (Ok 0) t (λ s. refl) (omega arith) p)
 
-  pub not_registered : {number kind range slide : ℕ} (r : Refusal) → line ≡ Register number kind range slide
-      → Ensures (register number kind range slide) m (refused (refusal_number r)) m' → CallEnsures asked m (Err r) t m'
+  pub not_registered : {q : Registration} (r : Refusal) → line ≡ Register q
+      → Ensures (register q.number q.kind q.range q.slide) m (refused (refusal_number r)) m' → CallEnsures asked m (Err r) t m'
   unfolding line_step
-  not_registered {number} {kind} {range} {slide} r names p = rw (accept, names) (done (register number kind range slide) _ m m' (Err r) t (λ s. refl) tt p)
+  not_registered {q} r names p = rw (accept, names) (done (register q.number q.kind q.range q.slide) _ m m' (Err r) t (λ s. refl) tt p)
 
   -- the same of a withdrawal
   pub withdrawn : {number : ℕ} → line ≡ Withdraw number

@@ -8,9 +8,8 @@ use mathlib.Core.List.{List, [], ◌++◌, append_assoc, append-nil}
 use lib.Dec.{ltb}
 use borrow.Author.Tests.{ltb-true, ltb-false}
 use lib.ListN.{length, take, length-append}
-use lib.Seq.{slice, slice_empty, take_all}
+use lib.Seq.{slice, slice_empty}
 use Rattle.parse.specs.Kept.{kept_length}
-use Rattle.parse.proofs.Slices.{slice_then}
 use Rattle.session.specs.Meaning.{line_room}
 use Rattle.session.specs.Stream.{Running, opened, fed_all}
 use Rattle.session.specs.Promises.{Held, Shown, Says, line_limit, Lent, lent_long, OpenEnsures, FeedEnsures, finish_room, FinishEnsures}
@@ -70,32 +69,9 @@ reached_then {t} {chunk} {old} {new} {input} {from} {to} {filled} {h} {h'} p f =
       on = p.on;
     }
 
--- bytes that are equal to these
-carries_as : {xs ys : List ℕ} {h h' : Held} → xs ≡ ys → Carries xs h h' → Carries ys h h'
-carries_as {xs} {ys} {h} {h'} e p = subst (λ (l : List ℕ). Carries l h h') e p
-
 -- no byte
 pub carries_nothing : (h : Held) → Carries [] h h
 carries_nothing h = record { on = λ t input p. reached_as (sym (append-nil input)) p }
-
--- the bytes of a chunk that were handed over, and those taken next
-pub carries-next : {chunk old new : List ℕ} {from to filled : ℕ} {h₀ h h' : Held} → from ≤ length chunk → Carries (slice 0 from chunk) h₀ h → FeedEnsures chunk from h old h' to new filled
-    → Carries (slice 0 to chunk) h₀ h'
-carries-next {chunk} {old} {new} {from} {to} {filled} {h₀} {h} {h'} l p f = record { on = on }
-  where
-    on : (t : Lent) (input : List ℕ) → Reached t input h₀ → Reached t (input ++ slice 0 to chunk) h'
-    on t input q =
-        reached_as
-        (append_assoc input (slice 0 from chunk) (slice from to chunk) ∙ ap (λ (l : List ℕ). input ++ l) (slice_then 0 from to chunk (omega arith) f.taken.onward (f.taken.inside l)))
-        (reached_then (p.on t input q) f)
-
--- all bytes of a chunk
-pub carries-all : (chunk : List ℕ) (from : ℕ) {h h' : Held} → length chunk ≤ from → Carries (slice 0 from chunk) h h' → Carries chunk h h'
-carries-all chunk from l p = carries_as (take_all from chunk l) p
-
--- bytes, and then others
-pub carries_then : {xs ys : List ℕ} {h h' h'' : Held} → Carries xs h h' → Carries ys h' h'' → Carries (xs ++ ys) h h''
-carries_then {xs} {ys} p q = record { on = λ t input r. reached_as (append_assoc input xs ys) (q.on t (input ++ xs) (p.on t input r)) }
 
 -- ---- so many that they come to the limit
 

@@ -13,7 +13,6 @@ use Rattle.std.proofs.lemmas.List.{take_more, take_rest, drop-take, length-take,
 use Rattle.std.proofs.lemmas.Slice.{between_is}
 use Rattle.std.proofs.lemmas.List.Quantifiers.{position-Some}
 use Rattle.window.specs.declared.refusal.Refusal.{Refusal}
-use lib.IntN.{ℤ}
 use lib.ListN.{length, get_or, take, drop, length-drop}
 use lib.Seq.{slice, slice_empty}
 use Rattle.board.specs.Tables.{Tables}
@@ -30,7 +29,6 @@ use Rattle.print.proofs.Putting.{put-none, put_then, puts_none, puts_then}
 use Rattle.board.specs.declared.tables.LentTables.{LentTables}
 use Rattle.board.specs.Lending.{SameSlices}
 use Rattle.session.specs.declared.stream.Session.{Session}
-use Rattle.session.specs.Meaning.{answer_table}
 use Rattle.session.specs.Stream.{Running, Streamed, line_ended, line_extended, fed, following, fed_all}
 use Rattle.session.specs.Promises.{Held, held, HeldKept, keeping, Shown, Says, line_limit, LineEnsures, Streams, RestEnsures}
 use Rattle.session.proofs.Streaming.{fed-append}
@@ -208,7 +206,7 @@ pub streams-next : (chunk : List ℕ) (from i to : ℕ) {h j k : Held} {old mid 
 streams-next chunk from i to {h} {j} {k} {old} {mid} {new} {at} {next} {last} a b c p q = rw (sym (slice_then from i to chunk a b c)) (streams_then p q)
 
 -- what holds at each turn over a chunk
-pub record Inside (chunk : List ℕ) (from : ℕ) (h₀ : Held) (old : List ℕ) (h : Held) (to : ℕ) (out : List ℕ) (at : ℕ) (places : List ℤ) : Type 0 where
+pub record Inside (chunk : List ℕ) (from : ℕ) (h₀ : Held) (old : List ℕ) (h : Held) (to : ℕ) (out : List ℕ) (at : ℕ) : Type 0 where
   pub streams : Streams (slice from to chunk) h₀ old 0 h out at
   pub onward : from ≤ to
   pub inside : from ≤ length chunk → to ≤ length chunk
@@ -216,6 +214,5 @@ pub record Inside (chunk : List ℕ) (from : ℕ) (h₀ : Held) (old : List ℕ)
   pub room : at ≤ length out
   pub as_long : length out ≡ length old
   pub few : h₀.session.lines ≤ line_limit → h.session.lines ≤ line_limit
-  pub table : length places ≡ answer_table
   pub line : kept_length ≤ length h.line
   pub still : to ≡ from → (h ≡ h₀) × ((at ≡ 0) × (out ≡ old))

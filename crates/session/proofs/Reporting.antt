@@ -1,7 +1,8 @@
 -- Laws of what a reading prints: its answers, one after the other.
 -- Assumes nothing.
-use Rattle.std.proofs.Common.{◌≡◌, ap, ℕ, zero, suc, ◌+◌, ◌*◌, ◌^◌, ◌<◌, List, [], ◌∷◌, ◌++◌, append_assoc, append-nil, ℤ, pos, get_or, drop, to_z, of_z, to_z-of_z, refl, add-one, add_assoc, arith}
-use Rattle.std.proofs.lemmas.List.{get_or-drop}
+use Rattle.std.proofs.Common.{◌≡◌, ap, ◌∙◌, ℕ, zero, suc, ◌+◌, ◌*◌, ◌^◌, ◌<◌, List, [], ◌∷◌, ◌++◌, append_assoc, append-nil, ℤ, pos, get_or, take, drop, length, to_z, of_z, to_z-of_z, refl, add-one, add_assoc, arith}
+use Rattle.std.proofs.lemmas.List.{get_or-drop, get_or-take, length-take}
+use Rattle.std.specs.Simd.{first_chunks}
 use lib.Signed.{mag}
 use mir.Syntax.{w64}
 use mir.Val.{hbits}
@@ -19,11 +20,28 @@ use Rattle.session.specs.Meaning.{answer_text, answer_texts, answer_at}
 pub place_read : (t : List ℤ) (j : ℕ) → mag (get_or t j (pos 0)) < 2 ^ hbits w64 → to_z w64 (of_z w64 (get_or t j (pos 0))) ≡ get_or t j (pos 0)
 place_read t j h = to_z-of_z {w = w64} (sfits_of h)
 
+-- an answer reads no place beyond its own
+answer-own : (t : List ℤ) → answer_at (take answer_places t) 0 ≡ answer_at t 0
+answer-own t =
+    rw (get_or-take answer_places t 0 (pos 0) (omega arith), get_or-take answer_places t 1 (pos 0) (omega arith), get_or-take answer_places t 2 (pos 0) (omega arith), get_or-take answer_places t 3 (pos 0) (omega arith)) refl
+
 -- ---- one after the other
 
 -- an answer behind the first
 answer-later : (t : List ℤ) (i : ℕ) → answer_at (drop answer_places t) i ≡ answer_at t (suc i)
 answer-later t i = let later : answer_places * suc i ≡ answer_places + answer_places * i = omega arith in simp (get_or-drop, later, add_assoc)
+
+-- answer i of a table, in so many answers of it
+answer-among : (count i : ℕ) (t : List ℤ) → i < count → answer_at (get_or (first_chunks answer_places count t) i []) 0 ≡ answer_at t i
+answer-among zero i t h = absurd (omega (arith, h))
+answer-among (suc count) zero t h = answer-own t
+answer-among (suc count) (suc i) t h = answer-among count i (drop answer_places t) (omega (arith, h)) ∙ answer-later t i
+
+-- and among the first k of them
+pub answer-taken : (k count i : ℕ) (t : List ℤ) {answers : List (List ℤ)} → answers ≡ first_chunks answer_places count t → length answers ≡ count → i < length (take k answers)
+    → answer_at (get_or (take k answers) i []) 0 ≡ answer_at t i
+answer-taken k count i t {answers} all many h =
+    rw (get_or-take k answers i [] (omega (arith, h, length-take k answers)), all) (answer-among count i t (omega (arith, h, many, length-take k answers)))
 
 -- one answer more
 answers-more : (i : ℕ) (t : List ℤ) → answers_in (suc i) t ≡ answers_in i t ++ (answer_at t i ∷ [])

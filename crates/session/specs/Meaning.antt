@@ -28,7 +28,7 @@ answer_table = answer_places * query_limit
 
 -- what a line asks of the model; a line that is refused changes nothing
 unfoldable pub line_step : State → Result Line Refusal → Stepped
-line_step s (Ok (Register number kind range slide)) = step s (register number kind range slide)
+line_step s (Ok (Register asked)) = step s (register asked.number asked.kind asked.range asked.slide)
 line_step s (Ok (Withdraw number)) = step s (withdraw number)
 line_step s (Ok (Reading value)) = step s (reading value answer_table)
 line_step s (Err r) = record { state = s; outcome = refused (refusal_number r) }

@@ -1,11 +1,10 @@
 // What a line asks of the engine.
-ghost use Rattle.std.specs.Prelude.{◌≡◌, length};
 ghost use Rattle.board.specs.Lending.{lent_lists, SameSlices};
 ghost use Rattle.engine.specs.Machine.{machine};
 ghost use Rattle.engine.specs.Outcomes.{answers_written, reading_state};
-ghost use Rattle.session.specs.Meaning.{answer_table};
 ghost use Rattle.session.specs.Promises.{CallEnsures};
 
+use crate::report::ANSWER_TABLE;
 use board::tables::LentTables;
 use engine::calls::{Answered, reading, register, withdraw};
 use engine::state::State;
@@ -18,10 +17,9 @@ pub(crate) fn call(
     state: State,
     list: &mut [u32],
     tables: &mut LentTables<'_>,
-    answers: &mut [i64],
+    answers: &mut [i64; ANSWER_TABLE],
     asked: Result<Line, Refusal>,
 ) -> Result<Answered, Refusal>
-    requires { length answers.old ≡ answer_table }
     ensures same { SameSlices tables.old tables.new }
     ensures called { CallEnsures asked
         (machine state list.old (lent_lists tables.old))
@@ -29,12 +27,7 @@ pub(crate) fn call(
         (machine (reading_state state result) list.new (lent_lists tables.new)) }
 {
     let state = match asked? {
-        Line::Register {
-            number,
-            kind,
-            range,
-            slide,
-        } => register(state, list, tables, number, kind, range, slide)?,
+        Line::Register(registration) => register(state, list, tables, registration)?,
         Line::Withdraw { number } => withdraw(state, list, tables.shared(), number)?,
         Line::Reading { value } => return reading(state, list, tables, answers, value),
     };

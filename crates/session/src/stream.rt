@@ -4,11 +4,11 @@ ghost use Rattle.board.specs.Lending.{lent_lists, shared_lists, SameSlices};
 ghost use Rattle.engine.specs.Machine.{machine};
 ghost use Rattle.engine.specs.Outcomes.{reading_state};
 ghost use Rattle.parse.specs.Kept.{kept_length};
-ghost use Rattle.session.specs.Meaning.{answer_table, line_room};
+ghost use Rattle.session.specs.Meaning.{line_room};
 ghost use Rattle.session.specs.Promises.{held, new_line, line_limit, has_last, goes_on, refuses_all, finish_room, RefusesEnsures, lent, OpenEnsures, LineEnsures, RestEnsures, FeedEnsures, FinishEnsures};
 
 use crate::call::call;
-use crate::report::{report, report_totals};
+use crate::report::{ANSWER_TABLE, report, report_totals};
 use board::tables::{LentTables, SharedTables};
 use engine::calls::{Answered, start, totals};
 use engine::state::State;
@@ -17,13 +17,11 @@ use parse::kept::{KEPT, asks, asks_with, keep};
 use parse::line::Line;
 use print::line::{ANSWER_ROOM, TOTALS_ROOM};
 use print::output::Output;
+use registry::list::RECORDS;
 use window::refusal::Refusal;
 
-// The places of the answer table: it is long enough for 32 answers.
-const ANSWER_TABLE: usize = 128;
-
 // What a line prints at most, in bytes: 32 answers.
-pub const LINE_ROOM: usize = 32 * ANSWER_ROOM;
+pub const LINE_ROOM: usize = RECORDS * ANSWER_ROOM;
 
 // What the end of a session prints at most: a line, and the totals.
 pub const FINISH_ROOM: usize = LINE_ROOM + TOTALS_ROOM;
@@ -67,10 +65,7 @@ fn new_line(state: State, lines: u64) -> Session
 fn state_after(state: State, called: Result<Answered, Refusal>) -> State
     ensures { result ≡ reading_state state called }
 {
-    match called {
-        Ok(answered) => answered.state,
-        Err(_) => state,
-    }
+    called.map_or(state, |answered| answered.state)
 }
 
 // Opens a session: a fresh engine, and no line yet.
@@ -107,10 +102,9 @@ pub(crate) fn end_line(
     lines: u64,
     list: &mut [u32],
     tables: &mut LentTables<'_>,
-    answers: &mut [i64],
+    answers: &mut [i64; ANSWER_TABLE],
     output: &mut Output<'_>,
 ) -> Session
-    requires table { length answers.old ≡ answer_table }
     requires room { output.old.at + line_room ≤ length output.old.bytes.now }
     requires few { lines ≤ line_limit }
     ensures same { SameSlices tables.old tables.new }
@@ -133,12 +127,11 @@ pub(crate) fn rest_of_line(
     list: &mut [u32],
     line: &mut [u8],
     tables: &mut LentTables<'_>,
-    answers: &mut [i64],
+    answers: &mut [i64; ANSWER_TABLE],
     chunk: &[u8],
     from: usize,
     output: &mut Output<'_>,
 ) -> (Session, usize)
-    requires table { length answers.old ≡ answer_table }
     requires room { output.old.at + line_room ≤ length output.old.bytes.now }
     requires few { session.lines < line_limit }
     requires inside { from < length chunk.now }

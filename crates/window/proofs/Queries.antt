@@ -133,12 +133,6 @@ horizon_far n [] g = omega arith
 horizon_far n (q ∷ []) g = omega (arith, g.0.range_high)
 horizon_far n (q ∷ p ∷ qs) g = omega (arith, horizon_far n (p ∷ qs) g.1, g.0.range_high)
 
--- and at most n
-pub horizon_le_count : (n : ℕ) (qs : List Query) → Each (λ (q : Query). q.origin ≤ n) qs → horizon n qs ≤ n
-horizon_le_count n [] h = le_refl n
-horizon_le_count n (q ∷ []) h = omega (arith, h.0)
-horizon_le_count n (q ∷ p ∷ qs) h = omega (arith, horizon_le_count n (p ∷ qs) h.1)
-
 -- a later count, a new query and a withdrawal never move it back
 pub horizon-later : (n : ℕ) (qs : List Query) → horizon n qs ≤ horizon (n + 1) qs
 horizon-later n [] = omega arith

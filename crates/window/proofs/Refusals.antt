@@ -3,7 +3,7 @@
 -- Assumes nothing.
 use Rattle.std.specs.Prelude.{Ok, Err}
 use mathlib.Core.Path.{◌≡◌, refl, sym, ap, subst}
-use mathlib.Core.Bool.{Bool, true, false, ◌||◌, cond}
+use mathlib.Core.Bool.{Bool, true, false, cond}
 use mathlib.Core.List.{List, [], ◌∷◌, ◌++◌}
 use Prim.Native.Nat.{ℕ, ◌+◌, ◌*◌, ◌≤◌, ◌<◌}
 use native.Mathlib.Omega.{arith}
@@ -52,7 +52,7 @@ passed_each (c ∷ cs) e = go c.applies e (λ k. passed_each cs k)
     go true k ih = refused_passed c.refusal k
     go false k ih = (refl, ih k)
 
--- the checks pass exactly where none applies, and refuse where some does, as `any` tests it
+-- the checks pass exactly where none applies, as `any` tests it
 pub passed_any : (cs : List Check) → first_refusal cs ≡ Ok tt → any applying cs ≡ false
 passed_any [] e = refl
 passed_any (c ∷ cs) e =
@@ -62,15 +62,6 @@ passed_any (c ∷ cs) e =
 pub any_passed : (cs : List Check) → any applying cs ≡ false → first_refusal cs ≡ Ok tt
 any_passed [] e = refl
 any_passed (c ∷ cs) e = rw (not_left c.applies (any applying cs) e) (any_passed cs (not_right c.applies (any applying cs) e))
-
-pub refused-any : (cs : List Check) (r : Refusal) → first_refusal cs ≡ Err r → any applying cs ≡ true
-refused-any [] r e = refused_passed r (sym e)
-refused-any (c ∷ cs) r e = go c.applies e (λ k. refused-any cs r k)
-  where
-    go : (b : Bool) → cond b (Err c.refusal) (first_refusal cs) ≡ Err r → (first_refusal cs ≡ Err r → any applying cs ≡ true)
-        → (b || any applying cs) ≡ true
-    go true k ih = refl
-    go false k ih = ih k
 
 -- ---- two runs of checks, one after the other
 

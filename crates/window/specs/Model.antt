@@ -6,7 +6,7 @@ use Rattle.std.specs.Int.Signed.{le_z}
 use Rattle.window.specs.declared.query.Query.{Query}
 use Rattle.window.specs.Lists.{filter, any}
 use Rattle.window.specs.Orders.{ge_z, sum, extreme, maximum, minimum}
-use Rattle.window.specs.Queries.{count_limit, sum_kind, count_kind, maximum_kind, edge, window_start, horizon}
+use Rattle.window.specs.Queries.{count_limit, sum_kind, count_kind, maximum_kind, joining, edge, window_start, horizon}
 use Rattle.window.specs.Partials.{Partial, spanning, Entry, between, entry, entries, partials_from}
 use Rattle.window.specs.Standing.{standing, comparisons}
 use Rattle.window.specs.Refusals.{Verdict, refusal_number, first_refusal, register_checks, withdraw_checks, reading_checks_at, has_number, due_at}
@@ -164,8 +164,7 @@ judged (Err r) s t = record { state = s; outcome = refused (refusal_number r) }
 
 -- the query that a registration brings, with g = n
 abbrev pub new_query : State → (number kind range slide : ℕ) → Query
-new_query s number kind range slide =
-    record { number = number; kind = kind; range = range; slide = slide; origin = count s }
+new_query s number kind range slide = joining number kind range slide (count s)
 
 -- one call: the checks of its kind are judged on the state and the call, then it is done
 unfoldable pub step_at : ℕ → State → Call → Stepped

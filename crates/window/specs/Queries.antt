@@ -53,6 +53,11 @@ maximum_kind = 3
 abbrev pub minimum_kind : ℕ
 minimum_kind = 4
 
+-- ---- the query that a registration brings, with g = n
+
+abbrev pub joining : (number kind range slide n : ℕ) → Query
+joining number kind range slide n = record { number = number; kind = kind; range = range; slide = slide; origin = n }
+
 -- ---- when it is answered, over which readings, and where it cuts
 
 -- how far m is from where the query's slides are counted: from its registration point

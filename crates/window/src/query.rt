@@ -1,6 +1,6 @@
 // A query, and what it means at a count of readings (document 01, "What a query means" and "Where partials are cut").
 ghost use Rattle.std.specs.Prelude.{◌≡◌, ◌≤◌};
-ghost use Rattle.window.specs.Queries.{Limits, phase, due, edge, window_start, window_count};
+ghost use Rattle.window.specs.Queries.{Limits, joining, phase, due, edge, window_start, window_count};
 ghost use Rattle.window.specs.Kinds.{KindOf};
 
 use crate::count::{Count, narrow};
@@ -51,6 +51,30 @@ pub struct Query {
     pub slide: u32,
     // Document 01's registration point g: the count of readings at which the query was accepted.
     pub origin: Count,
+}
+
+// What a registration brings: the fields of a query, without its registration point.
+#[derive(Clone, Copy, Debug, PartialEq, Eq)]
+pub struct Registration {
+    pub number: u32,
+    pub kind: u32,
+    pub range: u32,
+    pub slide: u32,
+}
+
+impl Registration {
+    // The query that joins at this count of readings.
+    pub fn at(self, origin: Count) -> Query
+        ensures { result ≡ joining self.number self.kind self.range self.slide origin }
+    {
+        Query {
+            number: self.number,
+            kind: self.kind,
+            range: self.range,
+            slide: self.slide,
+            origin,
+        }
+    }
 }
 
 impl Query {

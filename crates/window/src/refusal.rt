@@ -3,7 +3,7 @@
 ghost use Rattle.std.specs.Prelude.{◌≡◌};
 ghost use Rattle.window.specs.Refusals.{refusal_number, first_refusal, name_checks, length_checks, field_checks};
 
-use crate::query::{Kind, LENGTH_LIMIT, NUMBER_LIMIT};
+use crate::query::{Kind, LENGTH_LIMIT, NUMBER_LIMIT, Registration};
 
 // In the order of the document's table, each with the document's number.
 #[derive(Clone, Copy, Debug, PartialEq, Eq)]
@@ -62,9 +62,9 @@ pub fn check_lengths(range: u32, slide: u32) -> Result<(), Refusal>
 
 // Checks 3 to 6, in this order.
 #[tactic(auto, unfolding(crate::specs::Refusals::field_checks))]
-pub fn check_fields(number: u32, kind: u32, range: u32, slide: u32) -> Result<(), Refusal>
-    ensures { result ≡ first_refusal (field_checks number kind range slide) }
+pub fn check_fields(asked: Registration) -> Result<(), Refusal>
+    ensures { result ≡ first_refusal (field_checks asked.number asked.kind asked.range asked.slide) }
 {
-    check_name(number, kind)?;
-    check_lengths(range, slide)
+    check_name(asked.number, asked.kind)?;
+    check_lengths(asked.range, asked.slide)
 }

@@ -19,4 +19,4 @@ pub returns : goal.returns
 returns c =
     let a = c.args in
     let m : Machine = machine a.state a.list.now (shared_lists a.tables) in
-    accepted-totals m (all_pass calls.totals m _ c.in_ok-judge_entry.ensures.judged refl)
+    rw c.tally.ensures (accepted-totals m (all_pass calls.totals m _ c.in_ok-judge_entry.ensures.judged refl))

@@ -19,10 +19,3 @@ returns-in_err-check_reading-clause-judged c =
     (judged-last _ _ _ _ _ _ c.in_ok-checked.ensures.judged refl
     (c.in_err-check_reading.ensures
     ∙ ap (λ (qs : List Query). first_refusal (reading_checks a.state.count qs a.places)) (held_is _ _ _ c.in_ok-checked.ensures.passed)))
-
-pub returns-clause-judged : goal.returns-clause-judged
-returns-clause-judged c =
-    let a = c.args in
-    judged-last _ _ _ _ _ _ c.in_ok-checked.ensures.judged refl
-    (c.in_ok-check_reading.ensures
-    ∙ ap (λ (qs : List Query). first_refusal (reading_checks a.state.count qs a.places)) (held_is _ _ _ c.in_ok-checked.ensures.passed))

@@ -15,7 +15,7 @@ returns-in_err-queries-clause-judged c =
 
 pub returns-in_err-check_register-clause-judged : goal.returns-in_err-check_register-clause-judged
 returns-in_err-check_register-clause-judged c =
-    let q = c.args.q in
+    let q = c.args.asked in
     let p = err_from_is_err_and c.from_residual-in_err-check_register.result c.from_residual-in_err-check_register.ensures.1 in
     rw (p.1, p.2)
     (judged-last _ _ _ _ _ _ c.in_ok-queries.ensures.judged refl

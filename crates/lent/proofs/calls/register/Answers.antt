@@ -13,4 +13,4 @@ returns-in_err-next-clause-called c =
 pub returns-clause-called : goal.returns-clause-called
 returns-clause-called c =
     let h = c.in_ok-numbers.ensures in
-    register-lent _ _ _ h.0 _ _ _ _ _ _ _ _ _ _ (rw h.1 at c.in_ok-next.ensures.called) c.append.ensures.1
+    register-lent _ _ _ h.0 _ _ _ _ _ _ _ _ _ _ (rw h.1 at c.in_ok-next.ensures.called) (rw c.at.ensures at c.append.ensures.1)

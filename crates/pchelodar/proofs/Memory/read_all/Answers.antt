@@ -8,18 +8,12 @@ use Rattle.pchelodar.proofs.Memory.read_all.Goals as goal
 pub loop-init : goal.loop-init
 loop-init g c = (memory_same _, reads_none _ _)
 
-pub returns-in_err-after_read-clause-same : goal.returns-in_err-after_read-clause-same
-returns-in_err-after_read-clause-same g c = memory_then c.loop.invariant.0 c.after_read.ensures.same
-
 pub returns-in_err-after_read-clause-read : goal.returns-in_err-after_read-clause-read
 returns-in_err-after_read-clause-read g c =
     let (e, is, same) = err_from_is_err_and c.from_residual.result c.from_residual.ensures.1 in
     read_stopped _ _ _ _ c.read-got.result _ c.in_err-after_read.field-0.0 _ (is ∙ ap (λ x. Err x) same) c.loop.invariant.1 c.in_err-after_read.ensures.fed
     c.in_err-after_read.ensures.heard
     c.read-got.ensures.bytes
-
-pub returns-then-branch-eq0-clause-same : goal.returns-then-branch-eq0-clause-same
-returns-then-branch-eq0-clause-same g c = memory_then c.loop.invariant.0 c.after_read.ensures.same
 
 pub returns-then-branch-eq0-clause-read : goal.returns-then-branch-eq0-clause-read
 returns-then-branch-eq0-clause-read g c =
@@ -32,9 +26,6 @@ loop-preserved g c = (
   read_more _ _ _ c.read-got.result _ c.in_ok-after_read.field-0 (omega arith) (omega arith) c.loop.invariant.1 c.in_ok-after_read.ensures.fed c.in_ok-after_read.ensures.heard c.read-got.ensures.bound
       c.read-got.ensures.bytes,
 )
-
-pub returns-clause-same : goal.returns-clause-same
-returns-clause-same g c = c.loop.invariant.0
 
 pub returns-clause-read : goal.returns-clause-read
 returns-clause-read g c = reads_spent _ _ _ (omega arith) c.loop.invariant.1

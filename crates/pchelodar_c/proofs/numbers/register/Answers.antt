@@ -6,6 +6,6 @@ use Rattle.pchelodar_c.proofs.numbers.register.Goals as goal
 
 pub returns-clause-called : goal.returns-clause-called
 returns-clause-called c =
-    let a = c.args in
+    let q = c.args.asked in
     let s = c.store_state.ensures in
-    written_back (call_steady (register a.number a.kind a.range a.slide)) c.in_ok-before.ensures c.in_ok-after.ensures.called s.written s.read
+    written_back (call_steady (register q.number q.kind q.range q.slide)) c.in_ok-before.ensures c.in_ok-after.ensures.called s.written s.read

@@ -1,9 +1,8 @@
 -- `retain_others`: record i is kept, or left out. Assumes nothing.
-use Rattle.std.proofs.Common.{not, ap, ◌∙◌, arith, get_or, ne_eqb, eq-eqb}
+use Rattle.std.proofs.Common.{not, ap, arith, get_or, ne_eqb, eq-eqb}
 use Rattle.std.proofs.lemmas.List.{get_or_default}
-use Rattle.std.proofs.lemmas.List.Filters.{FiltersInPlace-more_no, FiltersInPlace-more_set, FiltersInPlace-all}
+use Rattle.std.proofs.lemmas.List.Filters.{FiltersInPlace-more_no, FiltersInPlace-more_set}
 use Rattle.registry.specs.Records.{unused}
-use Rattle.records.proofs.Leaving.{filter_std}
 use Rattle.records.proofs.list.retain_others.Goals as goal
 use Rattle.records.proofs.list.retain_others.Goals.{then-number-q, else-number-q}
 
@@ -15,6 +14,3 @@ loop-i-preserved c =
       | then-number-q w ↦ rw (w.records-is, w.kept-is) (FiltersInPlace-more_set l.invariant (omega arith) (ap not (ne_eqb _ _ w.if-number-q.true)) read)
       | else-number-q w ↦ rw (w.records-is, w.kept-is) (FiltersInPlace-more_no l.invariant (omega arith) (ap not (eq-eqb _ _ w.if-number-q.false)) read)
     ]
-
-pub returns-clause-retained : goal.returns-clause-retained
-returns-clause-retained c = FiltersInPlace-all c.loop-i.invariant (omega arith) ∙ filter_std _ c.args.records.now

@@ -19,7 +19,6 @@ loop-answers-init c =
         room = omega arith;
         as_long = refl;
         few = λ h. h;
-        table = refl;
         line = open-room _ _ c.requires.open;
         still = λ e. (refl, (refl, refl));
       };
@@ -41,7 +40,6 @@ loop-answers-preserved c =
     let v = c.loop-answers.invariant.inside in
     let told = c.rest_of_line.ensures in
     let rest = told.rest in
-    let lengths = c.rest_of_line.auto in
     let going = goes_on_lem _ _ _ _ _ (sym c.goes_on.ensures ∙ c.loop-answers-test.true) in
     record {
       same = slices_then c.loop-answers.invariant.same told.same;
@@ -54,7 +52,6 @@ loop-answers-preserved c =
         room = omega (arith, rest.room, going.1.0, rest.streams.puts.put.as_long, v.as_long);
         as_long = rest.streams.puts.put.as_long ∙ v.as_long;
         few = λ h. rest.few;
-        table = lengths.answers ∙ v.table;
         line = omega (arith, v.line, rest.streams.kept.line.as_long);
         still = λ e. absurd (omega (arith, e, rest.onward, v.onward));
       };

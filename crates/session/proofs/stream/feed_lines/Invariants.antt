@@ -13,7 +13,7 @@ invariant-loop-answers l =
       same_slice : l.output.bytes.ghost_name ≡ i.output.bytes.ghost_name;
       inside : Inside l.chunk l.from
           (held i.session i.list i.line (lent_lists i.tables)) i.output.bytes.now
-          (held l.session l.list l.line (lent_lists l.tables)) l.to l.output.bytes.now l.output.at l.answers;
+          (held l.session l.list l.line (lent_lists l.tables)) l.to l.output.bytes.now l.output.at;
     }
 
 abbrev pub decreases-loop-answers : goal.decreases-loop-answers

@@ -3,23 +3,23 @@ use Rattle.board.specs.Lending.{lent_lists}
 use Rattle.board.proofs.Lending.{long_each, tables_are}
 use Rattle.board.proofs.tables.LentTables.zero.Goals as goal
 
-pub overwrite-requires : goal.overwrite-requires
-overwrite-requires c = (long_each (lent_lists c.args.self.now) c.requires).starts
+pub overwrite-requires-clause-long : goal.overwrite-requires-clause-long
+overwrite-requires-clause-long c = (long_each (lent_lists c.args.self.now) c.requires).starts
 
-pub overwrite-requires-2 : goal.overwrite-requires-2
-overwrite-requires-2 c = (long_each (lent_lists c.args.self.now) c.requires).sums
+pub overwrite-requires-2-clause-long : goal.overwrite-requires-2-clause-long
+overwrite-requires-2-clause-long c = (long_each (lent_lists c.args.self.now) c.requires).sums
 
-pub overwrite-requires-3 : goal.overwrite-requires-3
-overwrite-requires-3 c = (long_each (lent_lists c.args.self.now) c.requires).max_starts
+pub overwrite-requires-3-clause-long : goal.overwrite-requires-3-clause-long
+overwrite-requires-3-clause-long c = (long_each (lent_lists c.args.self.now) c.requires).max_starts
 
-pub overwrite-requires-4 : goal.overwrite-requires-4
-overwrite-requires-4 c = (long_each (lent_lists c.args.self.now) c.requires).max_values
+pub overwrite-requires-4-clause-long : goal.overwrite-requires-4-clause-long
+overwrite-requires-4-clause-long c = (long_each (lent_lists c.args.self.now) c.requires).max_values
 
-pub overwrite-requires-5 : goal.overwrite-requires-5
-overwrite-requires-5 c = (long_each (lent_lists c.args.self.now) c.requires).min_starts
+pub overwrite-requires-5-clause-long : goal.overwrite-requires-5-clause-long
+overwrite-requires-5-clause-long c = (long_each (lent_lists c.args.self.now) c.requires).min_starts
 
-pub overwrite-requires-6 : goal.overwrite-requires-6
-overwrite-requires-6 c = (long_each (lent_lists c.args.self.now) c.requires).min_values
+pub overwrite-requires-6-clause-long : goal.overwrite-requires-6-clause-long
+overwrite-requires-6-clause-long c = (long_each (lent_lists c.args.self.now) c.requires).min_values
 
 pub returns-clause-zeroed : goal.returns-clause-zeroed
 returns-clause-zeroed c =

@@ -7,9 +7,6 @@ returns-in_err-self-in-Start-clause-performed c =
     let p = err_from_is_err_and c.from_residual.result c.from_residual.ensures.1 in
     rw (p.1, p.2, c.in-Start.is) (c.in_err-self-in-Start.ensures.called c.args.self.now.state)
 
-pub returns-in_ok-self-in-Start-clause-performed : goal.returns-in_ok-self-in-Start-clause-performed
-returns-in_ok-self-in-Start-clause-performed c = rw c.in-Start.is (c.in_ok-self-in-Start.ensures.called c.args.self.now.state)
-
 pub returns-in_err-self-in-Register-clause-performed : goal.returns-in_err-self-in-Register-clause-performed
 returns-in_err-self-in-Register-clause-performed c =
     let p = err_from_is_err_and c.from_residual-in_err-self-in-Register.result c.from_residual-in_err-self-in-Register.ensures.1 in

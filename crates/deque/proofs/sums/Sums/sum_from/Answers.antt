@@ -1,7 +1,7 @@
 -- `Sums::sum_from`: where partials are sorted, the search finds the first that starts at `from` or later; the lap
 -- without what came before its place, with the lap before where the place lies behind the newest, is the sum.
 -- Assumes nothing.
-use Rattle.std.proofs.Common.{◌≡◌, ℤ, List, ℕ, map, sym, ap, subst, ◌∙◌, ◌<◌, arith, rules, w64, to_z-of_z, drop}
+use Rattle.std.proofs.Common.{◌≡◌, ℤ, List, ℕ, map, refl, sym, ap, subst, ◌∙◌, ◌<◌, arith, rules, w64, to_z-of_z, drop}
 use Rattle.std.specs.List.Sorted.{IsNonDecreasing}
 use Rattle.std.proofs.lemmas.Int.{ints}
 use Rattle.window.specs.Orders.{sum}
@@ -28,29 +28,23 @@ read : (sums : List ℤ) (s : Sums) (j p : ℕ) (z k : ℤ) → z ≡ sum_at sum
     → (Small lap_limit z → k ≡ z) → k ≡ sum_at sums p
 read sums s j p z k e here l bounds same = same (subst (Small lap_limit) (sym (e ∙ ap (sum_at sums) here)) (bounds j l)) ∙ e
 
-pub returns-then-ring-first : goal.returns-then-ring-first
-returns-then-ring-first c sorted bounds =
+pub returns-in_default : goal.returns-in_default
+returns-in_default c sorted bounds =
     let a = c.args in
-    let f = c.search-first in
-    sum-none a.starts.now a.sums.now a.self f.result c.if-ring-first.true
-    ∙ found a.starts.now a.sums.now a.self a.from f.result f.ensures.found sorted
-
-pub overflow_add-result : goal.overflow_add-result
-overflow_add-result c =
-    let s : Sums = c.args.self in
-    let fits = c.requires.0 in
-    omega (arith, ints, lap-fits s fits, both_fit s fits c.clamp.result c.clamp.ensures.small c.lap_behind.result c.lap_behind.ensures.small)
+    let before = count_before a.from (starts_of a.starts.now a.self.ring) in
+    sum-none a.starts.now a.sums.now a.self before (c.in_default.ensures (partials-rising a.starts.now a.sums.now a.self sorted))
+    ∙ found a.starts.now a.sums.now a.self a.from before (λ _. refl) sorted
 
 pub returns : goal.returns
 returns c sorted bounds =
     let a = c.args in
     let s : Sums = a.self in
     let fits = c.requires.0 in
-    let f = c.search-first in
-    let p = c.place-place in
+    let p = c.in-Some.place in
+    let (j, within, here, first) = c.in-Some.ensures in
     let k = c.clamp in
     let b = c.lap_behind in
-    let number = read a.sums.now s f.result p.result _ k.result (to_z-of_z {w = w64} {z = sum_at a.sums.now p.result} (search rules)) p.ensures (omega arith) bounds k.ensures.same in
+    let number = read a.sums.now s j p _ k.result (to_z-of_z {w = w64} {z = sum_at a.sums.now p} (search rules)) here within bounds k.ensures.same in
     omega (arith, ints, lap-fits s fits, since_fits s fits k.result k.ensures.small, both_fit s fits k.result k.ensures.small b.result b.ensures.small)
-    ∙ sum_read a.starts.now a.sums.now s f.result (omega arith) p.result k.result b.result p.ensures number b.ensures.value
-    ∙ found a.starts.now a.sums.now s a.from f.result f.ensures.found sorted
+    ∙ sum_read a.starts.now a.sums.now s j within p k.result b.result here number b.ensures.value
+    ∙ found a.starts.now a.sums.now s a.from j first sorted

@@ -2,7 +2,7 @@
 -- Assumes nothing.
 use Rattle.std.proofs.Common.{ℕ, ◌+◌, ◌<◌, ◌≤◌, ◌≡◌, sym, ap, subst, ◌∙◌, Bool, true, false, List, [], ◌∷◌, drop, ℤ, w64, to_z-of_z, arith}
 use Rattle.window.specs.declared.query.Query.{Query}
-use Rattle.window.specs.Queries.{Limits, due, window_start, window_count}
+use Rattle.window.specs.Queries.{due, window_start, window_count}
 use Rattle.window.specs.Refusals.{due_at}
 use Rattle.window.specs.Calls.{Answer}
 use Rattle.registry.specs.Records.{record_at, used}
@@ -36,10 +36,6 @@ module _ {X : Type 0} (back : X → Query → Answer) (n k : ℕ) (list : List �
     not_due : (q : Query) (t : Bool) → q ≡ record_at list i → t ≡ due n q → t ≡ false → Answering (due_at n (drop i (used k list))) now answered
         → Answering (due_at n (drop (i + 1) (used k list))) now answered
     not_due q t is found so = subst (λ (qs : List Query). Answering qs now answered) (filter-failed k list i inside (due n) (sym (found ∙ ap (due n) is) ∙ so))
-
--- the query that was read is within the limits
-pub due-requires : goal.due-requires
-due-requires c = subst Limits (sym c.query-q.ensures) (c.args.checked.limits c.loop-i.i c.loop-i-test.true)
 
 pub put_answer-requires : goal.put_answer-requires
 put_answer-requires c =
