@@ -6,7 +6,7 @@ use crate::tokens::{begins, is_written, Kind, Tree};
 
 /// The attributes that may stand before an item, beside derives (`derives.rs`) and `#[tactic(..)]`, which may also
 /// stand in a body.
-const ATTRIBUTES: [&str; 1] = ["unsafe(no_mangle)"];
+const ATTRIBUTES: [&str; 2] = ["unsafe(no_mangle)", "inline(always)"];
 
 /// What may stand at the head of a file.
 const HEAD: &str = "tactic(auto)";

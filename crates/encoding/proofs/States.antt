@@ -97,7 +97,7 @@ front_kept front w w' k n l e =
     }
 
 -- eighteen numbers of a state
-numbers_eighteen : (st : State) → length (numbers_of_state st) ≡ state_numbers
+pub numbers_eighteen : (st : State) → length (numbers_of_state st) ≡ state_numbers
 unfolding numbers_of_state
 numbers_eighteen st = refl
 

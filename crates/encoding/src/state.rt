@@ -187,14 +187,13 @@ fn numbers_of(state: State) -> [u64; STATE_NUMBERS]
     ]
 }
 
-// The state that the first 18 numbers are read as.
+// The state that the first 18 numbers are read as. Inlined, so that it is not copied to its caller.
+#[inline(always)]
 pub fn load_state(words: &[u64]) -> State
     requires { state_numbers ≤ length words.now }
     ensures { result ≡ state_of (take state_numbers words.now) }
 {
-    let mut w = [0; STATE_NUMBERS];
-    w.copy_from_slice(&words[..STATE_NUMBERS]);
-    state_of(w)
+    state_of(*words.first_chunk().unwrap())
 }
 
 // The state is written: it is read again as it was.
@@ -203,5 +202,5 @@ pub fn store_state(words: &mut [u64], state: State)
     ensures written { words.new ≡ numbers_of_state state ++ drop state_numbers words.old }
     ensures read { state_of (take state_numbers words.new) ≡ state }
 {
-    words[..STATE_NUMBERS].copy_from_slice(&numbers_of(state));
+    *words.first_chunk_mut().unwrap() = numbers_of(state);
 }

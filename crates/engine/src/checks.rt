@@ -16,7 +16,9 @@ use window::count::Count;
 use window::query::Registration;
 use window::refusal::Refusal;
 
-// Checks 1 and 2. What passes is the list with the state's used records.
+// Checks 1 and 2. What passes is the list with the state's used records. Inlined, since else each call lays out its state
+// and the slices of its tables in memory once more, for this function alone.
+#[inline(always)]
 pub(crate) fn judge_entry<'a>(
     state: State,
     list: &'a [u32],

@@ -29,7 +29,8 @@ fn check_room(state: &[u64]) -> Result<(), Refusal>
     Ok(())
 }
 
-// The state that the numbers are read as, where there is room for one.
+// The state that the numbers are read as, where there is room for one. Inlined, so that it is not copied to its caller.
+#[inline(always)]
 fn state_in(state: &[u64]) -> Result<State, Refusal>
     ensures { MatchResult result
         (λ st. (state_numbers ≤ length state.now) × (st ≡ state_of (take state_numbers state.now)))
