@@ -13,21 +13,20 @@ use board::tables::LentTables;
 use deque::ring::CAPACITY;
 use engine::state::State;
 use records::copy::none;
-use std::io;
 
-// Each call of a list is made, and printed on a line with what it returned.
-fn play<P: Print>(rt: &P, caller: &mut Caller<'_>, calls: &[Call]) -> io::Result<()> {
+// Each call of a list is made, and printed on a line with what it returned. A write that fails is not looked at: the
+// stored output shows it.
+fn play<P: Print>(rt: &P, caller: &mut Caller<'_>, calls: &[Call]) {
     let mut answers = [0; PLACES];
     for call in calls {
         let answers = &mut answers[..call.places()];
         let returned = caller.perform(*call, answers);
-        println!(rt; "{call} -> {}", Outcome { returned, answers })?;
+        let _ = println!(rt; "{call} -> {}", Outcome { returned, answers });
     }
-    Ok(())
 }
 
 // Each list in turn, with a blank line between two.
-fn play_all<P: Print>(rt: &P) -> io::Result<()> {
+fn play_all<P: Print>(rt: &P) {
     let tables = LentTables {
         starts: &mut [0; CAPACITY],
         sums: &mut [0; CAPACITY],
@@ -57,14 +56,12 @@ fn play_all<P: Print>(rt: &P) -> io::Result<()> {
     ];
     for (i, calls) in cases.iter().enumerate() {
         if i > 0 {
-            println!(rt)?;
+            let _ = println!(rt);
         }
-        play(rt, &mut caller, calls)?;
+        play(rt, &mut caller, calls);
     }
-    Ok(())
 }
 
-// A write that fails ends the program: the stored output shows it.
 fn main(rt: HostRuntime) {
-    let _ = play_all(&rt);
+    play_all(&rt);
 }
