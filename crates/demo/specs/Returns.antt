@@ -1,6 +1,6 @@
 -- The demonstration's calls, what they return and what their caller holds, in the words of the promises.
 -- Assumes nothing.
-use Rattle.std.specs.Prelude.{ℕ, ◌*◌, min, List, [], ◌∷◌, ℤ, Result, Ok, Err}
+use Rattle.std.specs.Prelude.{ℕ, ◌*◌, ◌≡◌, min, List, [], ◌∷◌, ℤ, ⊤, Result, Ok, Err}
 use Rattle.window.specs.declared.refusal.Refusal.{Refusal}
 use Rattle.window.specs.Queries.{count_limit}
 use Rattle.window.specs.Calls as calls
@@ -8,6 +8,7 @@ use Rattle.window.specs.Calls.{Outcome, accepted, refused}
 use Rattle.window.specs.Refusals.{refusal_number, answer_places}
 use Rattle.registry.specs.Records.{record_limit}
 use Rattle.board.specs.Lending.{lent_lists}
+use Rattle.board.specs.Tables.{Tables}
 use Rattle.engine.specs.Demand3.{PerformsOn}
 use Rattle.engine.specs.Outcomes.{reading_outcome, totals_outcome}
 use Rattle.engine.specs.Promises.{Ensures}
@@ -49,3 +50,9 @@ outcome_of (Err r) places = refused (refusal_number r)
 abbrev pub PerformsWith : (before after : List ℤ) → calls.Call → Lent → Outcome → Lent → Type 0
 PerformsWith before after c m o m' =
     PerformsOn count_limit OnLent (λ (v : ℤ) (places : ℕ). ReadingOnLent v before after) (OnLent (Ensures calls.totals)) c m o m'
+
+-- the tables before and after a call: a withdrawal and totals are only lent them to read
+abbrev pub KeepsTables : Call → Tables → Tables → Type 0
+KeepsTables (script.Withdraw number) t t' = t' ≡ t
+KeepsTables script.Totals t t' = t' ≡ t
+KeepsTables _ t t' = ⊤

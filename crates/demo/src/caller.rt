@@ -1,8 +1,8 @@
 // What a caller of the engine holds between two calls, and each call made on it.
 ghost use Rattle.std.specs.Prelude.{length};
-ghost use Rattle.board.specs.Lending.{SameSlices};
+ghost use Rattle.board.specs.Lending.{lent_lists, SameSlices};
 ghost use Rattle.lent.specs.Promises.{ReadingOnLent};
-ghost use Rattle.demo.specs.Returns.{held, call_of, outcome_of, PerformsWith};
+ghost use Rattle.demo.specs.Returns.{held, call_of, outcome_of, PerformsWith, KeepsTables};
 
 use crate::script::Call;
 use board::tables::LentTables;
@@ -37,6 +37,7 @@ impl Caller<'_> {
         ensures same { SameSlices self.old.tables self.new.tables }
         ensures performed { PerformsWith answers.old answers.new (call_of (length answers.old) call)
             (held self.old) (outcome_of result answers.new) (held self.new) }
+        ensures tables { KeepsTables call (lent_lists self.old.tables) (lent_lists self.new.tables) }
     {
         match call {
             Call::Start => {
