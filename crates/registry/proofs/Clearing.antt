@@ -85,14 +85,14 @@ module _ (k : ℕ) (l : List ℕ) (few : k ≤ record_limit) (long : list_places
       same : length cleared ≡ length l
       same = length-zeroed (order_at + k) list_places records (omega arith) reaching ∙ as_long
 
--- the same of what was put there
-pub zeros_cleared : (k : ℕ) (l : List ℕ) → k ≤ record_limit → list_places ≤ length l → (xs ys : List ℕ)
-    → xs ≡ replicate (length (mid_of (query_numbers * k) (order_at - query_numbers * k) l)) 0
-    → ys ≡ replicate (length (mid_of (order_at + k) (list_places - (order_at + k)) (put_mid (query_numbers * k) (order_at - query_numbers * k) l xs))) 0
-    → Cleared k l (put_mid (order_at + k) (list_places - (order_at + k)) (put_mid (query_numbers * k) (order_at - query_numbers * k) l xs) ys)
-zeros_cleared k l few long xs ys e f =
-    let m : List ℕ = put_mid (query_numbers * k) (order_at - query_numbers * k) l xs in
-    let first : m ≡ records k l few long = filled (query_numbers * k) order_at l (omega arith) (omega arith) xs e in
+-- the same of what was put there, from the k-th record to where the places begin, and behind the k-th place
+pub zeros_cleared : (k : ℕ) (l : List ℕ) → k ≤ record_limit → list_places ≤ length l → (b : ℕ) → b ≡ order_at → (xs ys : List ℕ)
+    → xs ≡ replicate (length (mid_of (query_numbers * k) (b - query_numbers * k) l)) 0
+    → ys ≡ replicate (length (mid_of (order_at + k) (list_places - (order_at + k)) (put_mid (query_numbers * k) (b - query_numbers * k) l xs))) 0
+    → Cleared k l (put_mid (order_at + k) (list_places - (order_at + k)) (put_mid (query_numbers * k) (b - query_numbers * k) l xs) ys)
+zeros_cleared k l few long b here xs ys e f =
+    let m : List ℕ = put_mid (query_numbers * k) (b - query_numbers * k) l xs in
+    let first : m ≡ records k l few long = filled (query_numbers * k) b l (omega arith) (omega arith) xs e ∙ ap (λ (n : ℕ). zeroed (query_numbers * k) n l) here in
     let second : put_mid (order_at + k) (list_places - (order_at + k)) m ys ≡ zeroed (order_at + k) list_places m =
     filled (order_at + k) list_places m (omega arith) (rw first (reaching k l few long)) ys f in
     subst (Cleared k l) (sym (second ∙ ap (zeroed (order_at + k) list_places) first)) (all_cleared k l few long)

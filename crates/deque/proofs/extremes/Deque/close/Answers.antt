@@ -23,8 +23,8 @@ Leaves below y f len before left total =
 module _ (below : ℤ → ℤ → Bool) (y : Entry ℤ) (f : ℕ → Entry ℤ) (len before n total : ℕ) (few : n ≤ len) (spent : total ≡ before + (len - n))
     (same : trimmed below y (listed n f) ≡ trimmed below y (listed len f)) where
   -- there is none
-  none_left : n ≡ 0 → Leaves below y f len before 0 total
-  none_left e = (omega arith, omega arith, sym (ap (λ m. listed m f) e) ∙ sym (trim_none below y n f e) ∙ same)
+  none_left : n ≡ 0 → (left : ℕ) → left ≡ n → Leaves below y f len before left total
+  none_left e left q = (omega arith, omega arith, ap (λ m. listed m f) q ∙ sym (trim_none below y n f e) ∙ same)
 
   -- the last one stays, as one comparison more says
   last_stays : (last : ℕ) → n ≡ last + 1 → at_most below (f last) y ≡ false → (total' : ℕ) → total' ≡ total + 1 → Leaves below y f len before n total'
@@ -40,7 +40,7 @@ loop-newest-preserved c =
     let a = c.args in
     let l = c.loop-newest in
     let last = c.in-Some.newest in
-    let k : (1 ≤ l.len) × (last ≡ l.len - 1) = c.in-Some.ensures in
+    let k = c.in-Some.ensures in
     let verdict = verdict_is a.extreme a.starts.now a.values.now a.self.ring.head last c.place-last.result a.start _ _ a.value _ c.compare-compared.ensures.0
     (to_z-of_z {w = w32} {z = get_or a.values.now c.place-last.result (pos 0)} (search rules)) (to_z-of_z c.ranges.value) c.place-last.ensures in (
       omega arith,
@@ -65,10 +65,10 @@ returns c =
     let m = c.match-checked_sub in
     let leaves : Leaves below y f r.len a.self.comparisons m.left m.total =
     elim m.branch [
-      | in_default w ↦ rw (w.left-is, w.total-is) (none_left below y f r.len a.self.comparisons l.len l.total i.0 i.1 same (let none : 1 ≤ l.len → ⊥ = w.in_default.ensures in omega arith))
+      | in_default w ↦ rw (w.left-is, w.total-is) (none_left below y f r.len a.self.comparisons l.len l.total i.0 i.1 same (omega (arith, w.in_default.ensures)) _ (omega (arith, w.in_default.ensures)))
       | in-Some+then-not-compared w ↦
           let last = w.in-Some.newest in
-          let k : (1 ≤ l.len) × (last ≡ l.len - 1) = w.in-Some.ensures in
+          let k = w.in-Some.ensures in
           let verdict = verdict_is a.extreme a.starts.now a.values.now r.head last w.place-last.result a.start _ _ a.value _ w.compare-compared.ensures.0
           (to_z-of_z {w = w32} {z = get_or a.values.now w.place-last.result (pos 0)} (search rules)) (to_z-of_z c.ranges.value) w.place-last.ensures in
           rw (w.left-is, w.total-is) (last_stays below y f r.len a.self.comparisons l.len l.total i.0 i.1 same last (omega arith)
