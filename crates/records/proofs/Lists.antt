@@ -10,7 +10,7 @@ use Rattle.records.specs.LentList.{padded, first_records, overwritten}
 -- ---- the first records of a list
 
 -- of no records at all, every place is unused
-padded-none : (m : ℕ) → padded m [] ≡ replicate m unused
+pub padded-none : (m : ℕ) → padded m [] ≡ replicate m unused
 unfolding padded
 padded-none zero = refl
 padded-none (suc m) = ap (λ (t : List Query). unused ∷ t) (padded-none m)

@@ -68,7 +68,7 @@ module _ (s : Session) (list line : List ℕ) (t : Tables) (line' : List ℕ) (s
   same-room h = omega (arith, h, same.0)
 
   -- these bytes join it
-  line_kept : (bytes : List ℕ) (kept : ℕ) (old : List ℕ) (at : ℕ) → ((r : Running) → fed_all r bytes ≡ line_extended r bytes) → kept_line kept line' ≡ take kept_length (kept_line s.kept line ++ bytes)
+  pub line_kept : (bytes : List ℕ) (kept : ℕ) (old : List ℕ) (at : ℕ) → ((r : Running) → fed_all r bytes ≡ line_extended r bytes) → kept_line kept line' ≡ take kept_length (kept_line s.kept line ++ bytes)
       → Streams bytes (held s list line t) old at (held (keeping s kept) list line' t) old at
   line_kept bytes kept old at joins keeps =
       record {
@@ -88,7 +88,7 @@ module _ (s : Session) (list line : List ℕ) (t : Tables) (line' : List ℕ) (s
           }
 
   -- they join it, and the byte behind them ends it
-  line_taken : (bytes all : List ℕ) {asked : Result Line Refusal} {s' : Session} {list' : List ℕ} {t' : Tables} {old new : List ℕ} {at next : ℕ}
+  pub line_taken : (bytes all : List ℕ) {asked : Result Line Refusal} {s' : Session} {list' : List ℕ} {t' : Tables} {old new : List ℕ} {at next : ℕ}
       → ((r : Running) → fed_all r all ≡ line_ended (line_extended r bytes).running) → asked ≡ parsed (take kept_length (kept_line s.kept line ++ bytes))
       → LineEnsures asked (machine s.state list t) s.lines old at s' (machine s'.state list' t') new next
       → Streams all (held s list line t) old at (held s' list' line' t') new next
