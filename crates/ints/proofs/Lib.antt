@@ -1,3 +1,5 @@
+pub mod Balance
 pub mod Round
 pub mod Sizes
+pub mod Unsigned
 pub mod Widened

@@ -1,7 +1,16 @@
 -- The size of a signed number.
 -- Assumes nothing.
-use Rattle.std.specs.Prelude.{ℕ, ℤ, pos, neg_ℤ, ◌≤ℤ◌}
+use Rattle.std.specs.Prelude.{ℕ, suc, ℤ, pos, negsuc, neg_ℤ, ◌≤ℤ◌}
 use Rattle.std.specs.Int.{int_max, int_min}
+
+-- the positive part of z, and the negative part: z is up z - dn z, and one of them is 0. Only laws use them.
+abbrev pub up : ℤ → ℕ
+up (pos n) = n
+up (negsuc n) = 0
+
+abbrev pub dn : ℤ → ℕ
+dn (pos n) = 0
+dn (negsuc n) = suc n
 
 -- z is at most b, and at least -b
 pub record Small (b : ℕ) (z : ℤ) : Type 0 where
