@@ -1,11 +1,7 @@
--- `put_digits`: the library writes the digits. Assumes nothing.
+-- `put_digits`: one digit is one byte. Assumes nothing.
 use Rattle.std.proofs.Common.{arith}
-use Rattle.print.proofs.Digits.{decimal_same}
-use Rattle.print.proofs.Putting.{put_written}
+use Rattle.print.proofs.Digits.{decimal-small}
 use Rattle.print.proofs.output.Output.put_digits.Goals as goal
 
-pub returns-clause-put : goal.returns-clause-put
-returns-clause-put c =
-    let same = decimal_same c.args.n c.ranges.n.fits in
-    let written = rw same at c.write_digits.ensures in
-    put_written c.write_digits.result (omega arith) (omega arith) written.start written.written written.before c.write_digits.auto.buf
+pub returns-then-n-lt10-clause-put : goal.returns-then-n-lt10-clause-put
+returns-then-n-lt10-clause-put c = rw (decimal-small c.args.n (omega arith)) c.put_byte.ensures.put
