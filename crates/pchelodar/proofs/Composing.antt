@@ -1,8 +1,8 @@
 -- What each function of the program hands to the next.
 -- Assumes nothing.
-use Rattle.std.proofs.Common.{ℕ, zero, suc, ◌+◌, ◌-◌, ◌<◌, ◌≤◌, ◌≡◌, refl, sym, ap, subst, ◌∙◌, arith, List, [], ◌++◌, append_assoc, append-nil, length, take, drop, length-append, take-append-drop, Option, Some, None, IfSome, OnOk, Result, Ok, Err, MatchResult, true}
+use Rattle.std.proofs.Common.{ℕ, zero, suc, ◌+◌, ◌-◌, ◌<◌, ◌≤◌, ◌≡◌, refl, sym, ap, subst, ◌∙◌, arith, List, [], ◌++◌, append_assoc, append-nil, length, take, drop, length-append, take-append-drop, Bool, Option, Some, None, IfSome, OnOk, Result, Ok, Err, MatchResult, true}
 use lib.Seq.{slice_empty}
-use Rattle.std.specs.Prelude.{⊤}
+use Rattle.std.specs.Prelude.{⊤, is_ok}
 use Rattle.std.proofs.lemmas.List.{take_rest}
 use Rattle.std.specs.Io.{ReadsAtMost}
 use Rattle.std.specs.Io.KnownBytes.{Keeps, Appends, Consumes, IsAtEnd, ReadConsumes}
@@ -16,7 +16,7 @@ use Rattle.session.proofs.Composing.{fed_then, carries_nothing, limit_many, limi
 use Rattle.std.specs.declared.io.Error as io
 use Rattle.pchelodar.specs.declared.Error.{Error}
 use Rattle.pchelodar.specs.declared.Error.TheVariants as error
-use Rattle.pchelodar.specs.Promises.{after_write, after_feed, Wrote, FedOn, StepFed, ChunkFed, read_of, count_of, brought, Failed, FoundEnd, BroughtFed, AfterRead, Heard, Intake, none, next, Known, known, ReadsFed, SomeFed, AllRead, Concludes, Ended, Concluded, WholeRun}
+use Rattle.pchelodar.specs.Promises.{after_write, after_feed, Wrote, FedOn, StepFed, ChunkFed, read_of, count_of, brought, Failed, FoundEnd, BroughtFed, AfterRead, Heard, Intake, none, next, Known, known, ReadsFed, SomeFed, AllRead, Concludes, Ended, Concluded, WholeRun, WriteTold, ReadHeard}
 
 -- ---- what a write said
 
@@ -28,6 +28,11 @@ wrote bytes w w' said p e written = subst (Wrote bytes w w') (sym e) (go said wr
     go : (s : Result ⊤ io.Error) → OnOk s (Appends w w' bytes) → Wrote bytes w w' (after_write s)
     go (Ok x) a = a
     go (Err x) a = tt
+
+-- what follows a write, by whether it said that it succeeded
+pub told : (said : Result ⊤ io.Error) → WriteTold (after_write said) (is_ok said)
+told (Ok x) = refl
+told (Err e) = refl
 
 -- where the write failed
 pub step_failed : (bytes : List ℕ) (h h' : Held) (printed : List ℕ) (w w' : Option (List ℕ)) (e : Error) (p : Result ℕ Error) → p ≡ Err e → Wrote printed w w' (Err e) → StepFed bytes h h' w w' p
@@ -271,22 +276,31 @@ reads_spent places k₀ k l fed = limit_many (omega (arith, l, reads-many fed.re
 -- ---- the whole run
 
 -- finished, where the write did not fail
-pub concludes : {h : Held} {old new : List ℕ} {left : Lent} {filled : ℕ} (w w' : Option (List ℕ)) (p : Result ⊤ Error) → FinishEnsures h old left new filled → Wrote (take filled new) w w' p
-    → Concludes h old left new w w' p
+pub concludes : {h h' h'' : Held} {old new new' : List ℕ} {filled : ℕ} (w w' : Option (List ℕ)) (p : Result ⊤ Error) → h'' ≡ h' → new' ≡ new → FinishEnsures h old (lent_of h') new filled → Wrote (take filled new) w w' p
+    → Concludes h old (lent_of h'') new' w w' p
 unfolding Concludes Wrote
-concludes {h} {old} {new} {left} {filled} w w' p f = go p
+concludes {h} {h'} {h''} {old} {new} {new'} {filled} w w' p same still f written =
+    subst (λ (x : Held). Concludes h old (lent_of x) new' w w' p) (sym same) (subst (λ (l : List ℕ). Concludes h old (lent_of h') l w w' p) (sym still) (go p written))
   where
-    go : (q : Result ⊤ Error) → Wrote (take filled new) w w' q → Concludes h old left new w w' q
+    go : (q : Result ⊤ Error) → Wrote (take filled new) w w' q → Concludes h old (lent_of h') new w w' q
     go (Ok x) a = record { filled = filled; finish = f; written = a }
     go (Err (error.ReadFailed x)) a = a
     go (Err (error.WriteFailed x)) a = tt
     go (Err error.TooLong) a = a
 
+-- a run that is concluded ended as its last read says, which found the end of the input
+pub heard_concluded : (h : Held) (old : List ℕ) (left : Lent) (new : List ℕ) (w w' : Option (List ℕ)) (got : Option ℕ) (p : Result ⊤ Error) → got ≡ Some 0 → Concludes h old left new w w' p → ReadHeard p got
+unfolding Concludes
+heard_concluded h old left new w w' got (Ok x) e c = e
+heard_concluded h old left new w w' got (Err (error.ReadFailed x)) e c = absurd c
+heard_concluded h old left new w w' got (Err (error.WriteFailed x)) e c = tt
+heard_concluded h old left new w w' got (Err error.TooLong) e c = tt
+
 -- by what the reads came to, and the totals
-pub ended_reads : {t : Lent} {h : Held} (h' : Held) (places : ℕ) (left : Lent) (new : List ℕ) (k k' k'' : Known) (e : Error) (p : Result ⊤ Error) → p ≡ Err e → OpenEnsures t h → AllRead places h h' k k' (Err e)
-    → Ended places t left new k k'' p
-ended_reads {t} {h} h' places left new k k' k'' e p q opens read =
-    record { first = h; opens = opens; read = Err e; last = h'; midway = k'; reads = read; old = []; totals = Err e; concludes = tt; ends = q }
+pub ended_reads : {t : Lent} {h : Held} (h' : Held) (places : ℕ) (left : Lent) (new : List ℕ) (k k' k'' : Known) (got : Option ℕ) (said : Bool) (e : Error) (p : Result ⊤ Error) → p ≡ Err e → OpenEnsures t h → AllRead places h h' k k' (Err e)
+    → ReadHeard (Err e) got → WriteTold {A = ⊤} (Err e) said → Ended places t left new k k'' got said p
+ended_reads {t} {h} h' places left new k k' k'' got said e p q opens read heard told =
+    record { first = h; opens = opens; read = Err e; heard = heard; last = h'; midway = k'; reads = read; old = []; totals = Err e; concludes = tt; ends = q; told = subst (λ (r : Result ⊤ Error). WriteTold r said) (sym q) told }
 
 -- the whole session, or one that was broken off
 pub ran_broken : {t : Lent} {h : Held} (h' : Held) (k k' : Known) (places : ℕ) (new : List ℕ) (e : Error) (p : Result ⊤ Error) → p ≡ Err e → lent_long t ≡ true → kept_length ≤ length h.line → OpenEnsures t h

@@ -1,7 +1,7 @@
 -- What the program's functions promise: that they put the session's three functions together as its claim assumes
 -- (`Whole` of `session`), and what they decide on what `read` and `write_all` returned.
 -- Assumes nothing.
-use Rattle.std.specs.Prelude.{ℕ, zero, suc, ◌+◌, ◌<◌, ◌≡◌, List, [], ◌++◌, length, take, ⊤, Option, Result, Ok, Err, IsOk, OnOk}
+use Rattle.std.specs.Prelude.{ℕ, zero, suc, ◌+◌, ◌<◌, ◌≡◌, Bool, true, false, List, [], ◌++◌, length, take, ⊤, Option, Some, None, Result, Ok, Err, IsOk, OnOk}
 use Rattle.std.specs.Io.KnownBytes.{Keeps, Appends, Consumes, IsAtEnd}
 use Rattle.session.specs.Meaning.{session_output}
 use Rattle.session.specs.Promises.{Held, Lent, lent_of, OpenEnsures, FinishEnsures}
@@ -23,6 +23,14 @@ Told (Ok x) said = IsOk said
 Told (Err (error.ReadFailed e)) said = IsOk said
 Told (Err (error.WriteFailed e)) said = said ≡ Err e
 Told (Err error.TooLong) said = IsOk said
+
+-- a write failed exactly where it said so: what a function returns, and whether the last write said that it succeeded,
+-- true where there was none
+abbrev pub WriteTold : {A : Type 0} → Result A Error → Bool → Type 0
+WriteTold (Ok x) said = said ≡ true
+WriteTold (Err (error.ReadFailed e)) said = said ≡ true
+WriteTold (Err (error.WriteFailed e)) said = said ≡ false
+WriteTold (Err error.TooLong) said = said ≡ true
 
 -- write: these bytes were written, or the write failed
 unfoldable pub Wrote : List ℕ → Option (List ℕ) → Option (List ℕ) → Result ⊤ Error → Type 0
@@ -107,6 +115,14 @@ Heard (Err (error.ReadFailed e)) r = Failed r e
 Heard (Err (error.WriteFailed e)) r = 0 < count_of r.got
 Heard (Err error.TooLong) r = 0 < count_of r.got
 
+-- the reads ended as the last of them says: how they ended, and how many bytes the last one said that it brought, none
+-- where it failed
+abbrev pub ReadHeard : Result ⊤ Error → Option ℕ → Type 0
+ReadHeard (Ok x) got = got ≡ Some 0
+ReadHeard (Err (error.ReadFailed e)) got = got ≡ None
+ReadHeard (Err (error.WriteFailed e)) got = Unit {0}
+ReadHeard (Err error.TooLong) got = Unit {0}
+
 -- ---- all reads
 
 -- so many reads, one after the other, each of which brought a byte or more: all bytes that they brought, in order.
@@ -174,11 +190,13 @@ abbrev pub after_reads : Result ⊤ Error → Result ⊤ Error → Result ⊤ Er
 after_reads (Ok x) totals = totals
 after_reads (Err e) totals = Err e
 
--- run, with so many places to read into: opened on these, all read, and concluded where the input ended
-pub record Ended (places : ℕ) (lent left : Lent) (new : List ℕ) (k k' : Known) (p : Result ⊤ Error) : Type 0 where
+-- run, with so many places to read into: opened on these, all read, and concluded where the input ended; the reads
+-- ended as the last of them says, and a write failed exactly where the last one said so
+pub record Ended (places : ℕ) (lent left : Lent) (new : List ℕ) (k k' : Known) (got : Option ℕ) (said : Bool) (p : Result ⊤ Error) : Type 0 where
   pub first : Held
   pub opens : OpenEnsures lent first
   pub read : Result ⊤ Error
+  pub heard : ReadHeard read got
   pub last : Held
   pub midway : Known
   pub reads : AllRead places first last k midway read
@@ -186,6 +204,7 @@ pub record Ended (places : ℕ) (lent left : Lent) (new : List ℕ) (k k' : Know
   pub totals : Result ⊤ Error
   pub concludes : OnOk read (Concludes last old left new midway.holds k'.holds totals)
   pub ends : p ≡ after_reads read totals
+  pub told : WriteTold p said
 
 -- a run to its end, which leaves the query list, the tables and the output like this: the session of all bytes that
 -- were fed, opened on these, is whole

@@ -8,7 +8,7 @@ ghost use Rattle.std.specs.Io.KnownBytes.{Appends};
 ghost use Rattle.parse.specs.Kept.{kept_length};
 ghost use Rattle.session.specs.Meaning.{session_output};
 ghost use Rattle.session.specs.Promises.{lent_long, lent_of, finish_room};
-ghost use Rattle.pchelodar.specs.Promises.{after_write, after_feed, Told, known, read_of, Wrote, StepFed, ChunkFed, AfterRead, Heard, AllRead, Concludes, Ended, Concluded};
+ghost use Rattle.pchelodar.specs.Promises.{after_write, after_feed, Told, known, read_of, Wrote, StepFed, ChunkFed, AfterRead, Heard, AllRead, Concludes, Ended, Concluded, WriteTold, ReadHeard};
 
 use board::tables::LentTables;
 use deque::ring::CAPACITY;
@@ -59,7 +59,9 @@ fn after_feed(taken: usize) -> Result<usize, Error>
     Ok(taken)
 }
 
-// What a run holds: the session, what is lent to it, and the output that it prints into.
+// What a run holds: the session, what is lent to it, the output that it prints into, and what it heard last of its
+// streams: whether the last write said that it succeeded, true where there was none, and how many bytes the last read
+// said that it brought, none where it failed.
 #[derive(Drop)]
 struct Memory<'a> {
     session: Session,
@@ -67,19 +69,36 @@ struct Memory<'a> {
     line: &'a mut [u8],
     tables: LentTables<'a>,
     out: &'a mut [u8],
+    said: bool,
+    got: Option<usize>,
     ghost room: { finish_room ≤ length out.now },
 }
 
 impl Memory<'_> {
     ghost use Rattle.pchelodar.specs.Memories.{held_of, SameMemory};
 
-    // What was printed, so many bytes, is written.
-    #[tactic(auto, using(crate::proofs::Composing::wrote))]
-    fn write<W: Write>(&self, at: usize, output: &mut W) -> Result<(), Error>
+    // What was printed, so many bytes.
+    fn printed(&self, at: usize) -> &[u8]
         requires within { at ≤ length self.now.out.now }
-        ensures wrote { Wrote (take at self.now.out.now) (W.contents output.old) (W.contents output.new) result }
+        ensures { result.now ≡ take at self.now.out.now }
     {
-        after_write(output.write_all(&self.out[..at]))
+        &self.out[..at]
+    }
+
+    // What was printed, so many bytes, is written. Nothing changes but what is known of the last write.
+    #[tactic(auto, using(crate::proofs::Composing::wrote, crate::proofs::Composing::told))]
+    fn write<W: Write>(&mut self, at: usize, output: &mut W) -> Result<(), Error>
+        requires within { at ≤ length self.old.out.now }
+        ensures same { SameMemory self.old self.new }
+        ensures held { held_of self.new ≡ held_of self.old }
+        ensures out { self.new.out.now ≡ self.old.out.now }
+        ensures wrote { Wrote (take at self.old.out.now) (W.contents output.old) (W.contents output.new) result }
+        ensures told { WriteTold result self.new.said }
+        ensures got { self.new.got ≡ self.old.got }
+    {
+        let said = output.write_all(self.printed(at));
+        self.said = said.is_ok();
+        after_write(said)
     }
 
     // Bytes from the front of some: how many were taken. What they print is written.
@@ -89,6 +108,8 @@ impl Memory<'_> {
         ensures taken { IfOk result (λ n. (0 < n) × (n ≤ length bytes.now)) }
         ensures fed { StepFed bytes.now (held_of self.old) (held_of self.new)
             (W.contents output.old) (W.contents output.new) result }
+        ensures told { WriteTold result self.new.said }
+        ensures got { self.new.got ≡ self.old.got }
     {
         let taken = session::stream::feed(
             self.session,
@@ -109,6 +130,8 @@ impl Memory<'_> {
         ensures same { SameMemory self.old self.new }
         ensures fed { ChunkFed chunk.now (held_of self.old) (held_of self.new)
             (W.contents output.old) (W.contents output.new) result }
+        ensures told { self.old.said ≡ true → WriteTold result self.new.said }
+        ensures got { self.new.got ≡ self.old.got }
     {
         let mut rest = chunk;
         while !rest.is_empty() {
@@ -131,6 +154,8 @@ impl Memory<'_> {
         ensures fed { AfterRead (read_of got chunk.now) (held_of self.old) (held_of self.new)
             (W.contents output.old) (W.contents output.new) result }
         ensures heard { Heard result (read_of got chunk.now) }
+        ensures told { self.old.said ≡ true → WriteTold result self.new.said }
+        ensures got { self.new.got ≡ self.old.got }
     {
         let count = got.map_err(Error::ReadFailed)?;
         if count == 0 {
@@ -152,9 +177,12 @@ impl Memory<'_> {
         ensures read { AllRead (length chunk.old) (held_of self.old) (held_of self.new)
             (known (R.remaining input.old) (W.contents output.old))
             (known (R.remaining input.new) (W.contents output.new)) result }
+        ensures heard { ReadHeard result self.new.got }
+        ensures told { self.old.said ≡ true → WriteTold result self.new.said }
     {
         for _ in 0..u64::MAX {
             let got = input.read(chunk);
+            self.got = got.as_ref().ok().copied();
             if self.after_read(got, chunk, output)? == 0 {
                 return Ok(());
             }
@@ -167,6 +195,8 @@ impl Memory<'_> {
         ensures same { SameMemory self.old self.new }
         ensures concluded { Concludes (held_of self.old) self.old.out.now (lent_of (held_of self.new)) self.new.out.now
             (W.contents output.old) (W.contents output.new) result }
+        ensures told { WriteTold result self.new.said }
+        ensures got { self.new.got ≡ self.old.got }
     {
         let at = session::stream::finish(
             self.session,
@@ -190,11 +220,15 @@ impl Memory<'_> {
         ensures same { SameMemory self.old self.new }
         ensures ended { Ended (length chunk.old) (lent_of (held_of self.old)) (lent_of (held_of self.new)) self.new.out.now
             (known (R.remaining input.old) (W.contents output.old))
-            (known (R.remaining input.new) (W.contents output.new)) result }
+            (known (R.remaining input.new) (W.contents output.new)) self.new.got self.new.said result }
+        ensures heard { ReadHeard result self.new.got }
+        ensures told { WriteTold result self.new.said }
         ensures ran { Concluded (lent_of (held_of self.old)) (lent_of (held_of self.new)) self.new.out.now result }
         ensures written { 0 < length chunk.old → OnOk result (IfSome (R.remaining input.old)
             (λ xs. Appends (W.contents output.old) (W.contents output.new) (session_output xs))) }
     {
+        self.said = true;
+        self.got = Some(0);
         self.session = session::stream::open(self.list, &mut self.tables);
         self.read_all(input, chunk, output)?;
         self.conclude(output)
@@ -220,6 +254,8 @@ fn main(rt: HostRuntime) {
         line: &mut [0; KEPT],
         tables,
         out: &mut [0; BUFFER],
+        said: true,
+        got: Some(0),
     };
     let mut chunk = [0; BUFFER];
     let ended = memory.run(&mut rt.stdin(), &mut chunk, &mut rt.stdout());

@@ -11,4 +11,4 @@ returns-in_err-write-clause-fed g c =
 
 pub returns-clause-fed : goal.returns-clause-fed
 returns-clause-fed g c =
-    step_fed _ _ _ _ _ c.after_feed.ensures (omega (arith, c.args.self.now.room)) c.requires.some c.feed-taken.ensures.fed _ c.in_ok-write.ensures.wrote
+    rw c.write.ensures.held (step_fed _ _ _ _ _ c.after_feed.ensures (omega (arith, c.args.self.now.room)) c.requires.some c.feed-taken.ensures.fed _ c.in_ok-write.ensures.wrote)
