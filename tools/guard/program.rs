@@ -6,10 +6,11 @@ pub const CRATE: &str = "pchelodar";
 pub const FILE: &str = "crates/pchelodar/src/main.rt";
 
 /// Its functions, each of them once and no other one.
-pub const FUNCTIONS: [&str; 11] = [
+pub const FUNCTIONS: [&str; 12] = [
     "Error::fmt",
     "after_write",
     "after_feed",
+    "Memory::printed",
     "Memory::write",
     "Memory::feed",
     "Memory::feed_chunk",
@@ -22,7 +23,7 @@ pub const FUNCTIONS: [&str; 11] = [
 
 /// What a function calls, by its path, and how often it stands there; macros, its loops, branches and returns too, `?`
 /// among them, and cases that hold something.
-pub const CALLS: [(&str, &str, usize); 47] = [
+pub const CALLS: [(&str, &str, usize); 54] = [
     ("main", "State::fresh", 1),
     ("main", ".run", 1),
     ("main", ".stdin", 1),
@@ -30,6 +31,8 @@ pub const CALLS: [(&str, &str, usize); 47] = [
     ("main", "if", 1),
     ("main", "Err", 1),
     ("main", "eprintln!", 1),
+    ("main", "Some", 1),
+    ("Memory::run", "Some", 1),
     ("Memory::run", "session::stream::open", 1),
     ("Memory::run", ".read_all", 1),
     ("Memory::run", "?", 1),
@@ -41,6 +44,9 @@ pub const CALLS: [(&str, &str, usize); 47] = [
     ("Memory::read_all", "Err", 1),
     ("Memory::read_all", "?", 1),
     ("Memory::read_all", ".read", 1),
+    ("Memory::read_all", ".as_ref", 1),
+    ("Memory::read_all", ".ok", 1),
+    ("Memory::read_all", ".copied", 1),
     ("Memory::read_all", ".after_read", 1),
     ("Memory::after_read", "if", 1),
     ("Memory::after_read", "return", 1),
@@ -59,6 +65,8 @@ pub const CALLS: [(&str, &str, usize); 47] = [
     ("Memory::feed", "after_feed", 1),
     ("Memory::write", "after_write", 1),
     ("Memory::write", ".write_all", 1),
+    ("Memory::write", ".printed", 1),
+    ("Memory::write", ".is_ok", 1),
     ("Memory::conclude", "session::stream::finish", 1),
     ("Memory::conclude", ".write", 1),
     ("after_write", ".map_err", 1),
@@ -77,7 +85,7 @@ pub const LENT: &str = "self.session, self.list, self.line, &mut self.tables";
 
 /// Statements that stand in a function one after the other, once. Nothing stands beside them, but in `BESIDE`. Of a
 /// string nothing is compared.
-pub const WRITTEN: [(&str, &[&str]); 10] = [
+pub const WRITTEN: [(&str, &[&str]); 11] = [
     ("main", &LENDING),
     ("main", &MAIN),
     ("Memory::run", &RUN),
@@ -86,6 +94,7 @@ pub const WRITTEN: [(&str, &[&str]); 10] = [
     ("Memory::feed_chunk", &CHUNK),
     ("Memory::feed", &FEED),
     ("Memory::write", &WRITE),
+    ("Memory::printed", &PRINTED),
     ("Memory::conclude", &CONCLUDE),
     ("Error::fmt", &REPORT),
 ];
@@ -96,20 +105,22 @@ const LENDING: [&str; 2] = [
      max_starts: &mut [0; CAPACITY], max_values: &mut [0; CAPACITY], min_starts: &mut [0; CAPACITY], \
      min_values: &mut [0; CAPACITY] };",
     "let mut memory = Memory { session: Session { state: State::fresh(), lines: 0, kept: 0 }, \
-     list: &mut [0; LIST_PLACES], line: &mut [0; KEPT], tables, out: &mut [0; BUFFER] };",
+     list: &mut [0; LIST_PLACES], line: &mut [0; KEPT], tables, out: &mut [0; BUFFER], said: true, got: Some(0) };",
 ];
 const MAIN: [&str; 3] = [
     "let mut chunk = [0; BUFFER];",
     "let ended = memory.run(&mut rt.stdin(), &mut chunk, &mut rt.stdout());",
     "if let Err(error) = ended { let _ = eprintln!(rt; \"\"); }",
 ];
-const RUN: [&str; 3] = [
+const RUN: [&str; 5] = [
+    "self.said = true;",
+    "self.got = Some(0);",
     "self.session = session::stream::open(self.list, &mut self.tables);",
     "self.read_all(input, chunk, output)?;",
     "self.conclude(output)",
 ];
 const READ: [&str; 2] = [
-    "for _ in 0..u64::MAX { let got = input.read(chunk); \
+    "for _ in 0..u64::MAX { let got = input.read(chunk); self.got = got.as_ref().ok().copied(); \
      if self.after_read(got, chunk, output)? == 0 { return Ok(()); } }",
     "Err(Error::TooLong)",
 ];
@@ -130,7 +141,9 @@ const FEED: [&str; 4] = [
     "self.write(taken.at, output)?;",
     "after_feed(taken.to)",
 ];
-const WRITE: [&str; 1] = ["after_write(output.write_all(&self.out[..at]))"];
+const WRITE: [&str; 3] =
+    ["let said = output.write_all(self.printed(at));", "self.said = said.is_ok();", "after_write(said)"];
+const PRINTED: [&str; 1] = ["&self.out[..at]"];
 const CONCLUDE: [&str; 2] = ["let at = session::stream::finish(LENT, self.out);", "self.write(at, output)"];
 const REPORT: [&str; 2] = [
     "let what = match self { Error::ReadFailed(_) => \"\", Error::WriteFailed(_) => \"\", Error::TooLong => \"\" };",
@@ -153,9 +166,9 @@ pub const PARAMETERS: [(&str, &str, &str); 12] = [
     ("after_write", "said", "io::Result<()>"),
 ];
 
-/// The verdicts, what reads and writes and what is read from and written to, and the struct of the tables: how often
-/// each is named outside of all functions' bodies, and how often in which body.
-pub const NAMED: [(&str, usize, &[(&str, usize)]); 22] = [
+/// The verdicts, what reads and writes and what is read from and written to, what that said, and the struct of the
+/// tables: how often each is named outside of all functions' bodies, and how often in which body.
+pub const NAMED: [(&str, usize, &[(&str, usize)]); 24] = [
     ("ReadFailed", 1, &[("Error::fmt", 1), ("Memory::after_read", 1)]),
     ("WriteFailed", 1, &[("Error::fmt", 1), ("after_write", 1)]),
     ("TooLong", 1, &[("Error::fmt", 1), ("after_feed", 1), ("Memory::read_all", 1)]),
@@ -174,6 +187,8 @@ pub const NAMED: [(&str, usize, &[(&str, usize)]); 22] = [
     ("read", 0, &[("Memory::read_all", 1)]),
     ("write_all", 0, &[("Memory::write", 1)]),
     ("write", 1, &[("Memory::feed", 1), ("Memory::conclude", 1), ("Error::fmt", 1)]),
+    ("said", 2, &[("after_write", 1), ("Memory::write", 4), ("Memory::run", 1), ("main", 1)]),
+    ("got", 2, &[("Memory::after_read", 1), ("Memory::read_all", 4), ("Memory::run", 1), ("main", 1)]),
     ("memory", 0, &[("main", 2)]),
     ("ended", 0, &[("main", 2)]),
     ("error", 0, &[("main", 1)]),
