@@ -35,7 +35,6 @@ pub const CALLS: [(&str, &str, usize); 54] = [
     ("Memory::run", "Some", 1),
     ("Memory::run", "session::stream::open", 1),
     ("Memory::run", ".read_all", 1),
-    ("Memory::run", "?", 1),
     ("Memory::run", ".conclude", 1),
     ("Memory::read_all", "for", 1),
     ("Memory::read_all", "if", 1),
@@ -69,6 +68,7 @@ pub const CALLS: [(&str, &str, usize); 54] = [
     ("Memory::write", ".is_ok", 1),
     ("Memory::conclude", "session::stream::finish", 1),
     ("Memory::conclude", ".write", 1),
+    ("Memory::conclude", "?", 1),
     ("after_write", ".map_err", 1),
     ("after_feed", "if", 1),
     ("after_feed", "return", 1),
@@ -116,8 +116,8 @@ const RUN: [&str; 5] = [
     "self.said = true;",
     "self.got = Some(0);",
     "self.session = session::stream::open(self.list, &mut self.tables);",
-    "self.read_all(input, chunk, output)?;",
-    "self.conclude(output)",
+    "let read = self.read_all(input, chunk, output);",
+    "self.conclude(read, output)",
 ];
 const READ: [&str; 2] = [
     "for _ in 0..u64::MAX { let got = input.read(chunk); self.got = got.as_ref().ok().copied(); \
@@ -144,14 +144,14 @@ const FEED: [&str; 4] = [
 const WRITE: [&str; 3] =
     ["let said = output.write_all(self.printed(at));", "self.said = said.is_ok();", "after_write(said)"];
 const PRINTED: [&str; 1] = ["&self.out[..at]"];
-const CONCLUDE: [&str; 2] = ["let at = session::stream::finish(LENT, self.out);", "self.write(at, output)"];
+const CONCLUDE: [&str; 3] = ["read?;", "let at = session::stream::finish(LENT, self.out);", "self.write(at, output)"];
 const REPORT: [&str; 2] = [
     "let what = match self { Error::ReadFailed(_) => \"\", Error::WriteFailed(_) => \"\", Error::TooLong => \"\" };",
     "write!(f, \"\")",
 ];
 
 /// A parameter of a function, with its type.
-pub const PARAMETERS: [(&str, &str, &str); 12] = [
+pub const PARAMETERS: [(&str, &str, &str); 13] = [
     ("main", "rt", "HostRuntime"),
     ("Memory::run", "input", "&mut R"),
     ("Memory::run", "output", "&mut W"),
@@ -162,6 +162,7 @@ pub const PARAMETERS: [(&str, &str, &str); 12] = [
     ("Memory::feed_chunk", "output", "&mut W"),
     ("Memory::feed", "output", "&mut W"),
     ("Memory::write", "output", "&mut W"),
+    ("Memory::conclude", "read", "Result<(), Error>"),
     ("Memory::conclude", "output", "&mut W"),
     ("after_write", "said", "io::Result<()>"),
 ];
@@ -184,7 +185,7 @@ pub const NAMED: [(&str, usize, &[(&str, usize)]); 24] = [
     ("Write", 9, &[]),
     ("input", 2, &[("Memory::run", 1), ("Memory::read_all", 1)]),
     ("output", 7, &OUTPUT),
-    ("read", 0, &[("Memory::read_all", 1)]),
+    ("read", 1, &[("Memory::read_all", 1), ("Memory::run", 2), ("Memory::conclude", 1)]),
     ("write_all", 0, &[("Memory::write", 1)]),
     ("write", 1, &[("Memory::feed", 1), ("Memory::conclude", 1), ("Error::fmt", 1)]),
     ("said", 2, &[("after_write", 1), ("Memory::write", 4), ("Memory::run", 1), ("main", 1)]),

@@ -1,6 +1,6 @@
 -- What each function of the program hands to the next.
 -- Assumes nothing.
-use Rattle.std.proofs.Common.{ℕ, zero, suc, ◌+◌, ◌-◌, ◌<◌, ◌≤◌, ◌≡◌, refl, sym, ap, subst, ◌∙◌, arith, List, [], ◌++◌, append_assoc, append-nil, length, take, drop, length-append, take-append-drop, Bool, Option, Some, None, IfSome, OnOk, Result, Ok, Err, MatchResult, true}
+use Rattle.std.proofs.Common.{ℕ, zero, suc, ◌+◌, ◌-◌, ◌<◌, ◌≤◌, ◌≡◌, refl, sym, ap, subst, ◌∙◌, arith, List, [], ◌++◌, append_assoc, append-nil, length, take, drop, length-append, take-append-drop, Bool, Option, Some, None, IfSome, OnOk, OnErr, IfErr, Result, Ok, Err, MatchResult, true}
 use lib.Seq.{slice_empty}
 use Rattle.std.specs.Prelude.{⊤, is_ok}
 use Rattle.std.proofs.lemmas.List.{take_rest}
@@ -16,7 +16,7 @@ use Rattle.session.proofs.Composing.{fed_then, carries_nothing, limit_many, limi
 use Rattle.std.specs.declared.io.Error as io
 use Rattle.pchelodar.specs.declared.Error.{Error}
 use Rattle.pchelodar.specs.declared.Error.TheVariants as error
-use Rattle.pchelodar.specs.Promises.{after_write, after_feed, Wrote, FedOn, StepFed, ChunkFed, read_of, count_of, brought, Failed, FoundEnd, BroughtFed, AfterRead, Heard, Intake, none, next, Known, known, ReadsFed, SomeFed, AllRead, Concludes, Ended, Concluded, WholeRun, WriteTold, ReadHeard}
+use Rattle.pchelodar.specs.Promises.{after_write, after_feed, after_reads, Wrote, FedOn, StepFed, ChunkFed, read_of, count_of, brought, Failed, FoundEnd, BroughtFed, AfterRead, Heard, Intake, none, next, Known, known, ReadsFed, SomeFed, AllRead, Concludes, Ended, Concluded, WholeRun, WriteTold, ReadHeard}
 
 -- ---- what a write said
 
@@ -276,10 +276,11 @@ reads_spent places k₀ k l fed = limit_many (omega (arith, l, reads-many fed.re
 -- ---- the whole run
 
 -- finished, where the write did not fail
-pub concludes : {h h' h'' : Held} {old new new' : List ℕ} {filled : ℕ} (w w' : Option (List ℕ)) (p : Result ⊤ Error) → h'' ≡ h' → new' ≡ new → FinishEnsures h old (lent_of h') new filled → Wrote (take filled new) w w' p
-    → Concludes h old (lent_of h'') new' w w' p
+pub concludes : {h h' h'' : Held} {old new new' : List ℕ} {filled : ℕ} (w w' : Option (List ℕ)) (read p : Result ⊤ Error) → h'' ≡ h' → new' ≡ new → FinishEnsures h old (lent_of h') new filled → Wrote (take filled new) w w' p
+    → OnOk read (Concludes h old (lent_of h'') new' w w' p)
 unfolding Concludes Wrote
-concludes {h} {h'} {h''} {old} {new} {new'} {filled} w w' p same still f written =
+concludes {h} {h'} {h''} {old} {new} {new'} {filled} w w' (Err e) p same still f written = tt
+concludes {h} {h'} {h''} {old} {new} {new'} {filled} w w' (Ok x) p same still f written =
     subst (λ (x : Held). Concludes h old (lent_of x) new' w w' p) (sym same) (subst (λ (l : List ℕ). Concludes h old (lent_of h') l w w' p) (sym still) (go p written))
   where
     go : (q : Result ⊤ Error) → Wrote (take filled new) w w' q → Concludes h old (lent_of h') new w w' q
@@ -288,57 +289,51 @@ concludes {h} {h'} {h''} {old} {new} {new'} {filled} w w' p same still f written
     go (Err (error.WriteFailed x)) a = tt
     go (Err error.TooLong) a = a
 
--- a run that is concluded ended as its last read says, which found the end of the input
-pub heard_concluded : (h : Held) (old : List ℕ) (left : Lent) (new : List ℕ) (w w' : Option (List ℕ)) (got : Option ℕ) (p : Result ⊤ Error) → got ≡ Some 0 → Concludes h old left new w w' p → ReadHeard p got
+-- by what the reads came to
+pub heard_by : (h : Held) (old : List ℕ) (left : Lent) (new : List ℕ) (w w' : Option (List ℕ)) (read p : Result ⊤ Error) (got : Option ℕ) → IfErr read (λ e. p ≡ Err e) → OnOk read (Concludes h old left new w w' p)
+    → ReadHeard read got → ReadHeard p got
 unfolding Concludes
-heard_concluded h old left new w w' got (Ok x) e c = e
-heard_concluded h old left new w w' got (Err (error.ReadFailed x)) e c = absurd c
-heard_concluded h old left new w w' got (Err (error.WriteFailed x)) e c = tt
-heard_concluded h old left new w w' got (Err error.TooLong) e c = tt
+heard_by h old left new w w' (Ok x) (Ok y) got q c f = f
+heard_by h old left new w w' (Ok x) (Err (error.ReadFailed e)) got q c f = absurd c
+heard_by h old left new w w' (Ok x) (Err (error.WriteFailed e)) got q c f = tt
+heard_by h old left new w w' (Ok x) (Err error.TooLong) got q c f = tt
+heard_by h old left new w w' (Err e) p got q c f = subst (λ (r : Result ⊤ Error). ReadHeard r got) (sym q) f
 
--- by what the reads came to, and the totals
-pub ended_reads : {t : Lent} {h : Held} (h' : Held) (places : ℕ) (left : Lent) (new : List ℕ) (k k' k'' : Known) (got : Option ℕ) (said : Bool) (e : Error) (p : Result ⊤ Error) → p ≡ Err e → OpenEnsures t h → AllRead places h h' k k' (Err e)
-    → ReadHeard (Err e) got → WriteTold {A = ⊤} (Err e) said → Ended places t left new k k'' got said p
-ended_reads {t} {h} h' places left new k k' k'' got said e p q opens read heard told =
-    record { first = h; opens = opens; read = Err e; heard = heard; last = h'; midway = k'; reads = read; old = []; totals = Err e; concludes = tt; ends = q; told = subst (λ (r : Result ⊤ Error). WriteTold r said) (sym q) told }
+pub ended_by : {t : Lent} {h : Held} (h' : Held) (places : ℕ) (old : List ℕ) (left : Lent) (new : List ℕ) (k k' k'' : Known) (got : Option ℕ) (said : Bool) (read p : Result ⊤ Error) → OpenEnsures t h → AllRead places h h' k k' read
+    → ReadHeard read got → IfErr read (λ e. p ≡ Err e) → OnOk read (Concludes h' old left new k'.holds k''.holds p) → OnErr read (Keeps k'.holds k''.holds) → WriteTold p said
+    → Ended places t left new k k'' got said p
+ended_by {t} {h} h' places old left new k k' k'' got said read p opens reads heard q c kept told =
+    record { first = h; opens = opens; read = read; heard = heard; last = h'; midway = k'; reads = reads; old = old; totals = p; concludes = c; unwritten = kept; ends = go read q; told = told }
+  where
+    go : (r : Result ⊤ Error) → IfErr r (λ e. p ≡ Err e) → p ≡ after_reads r p
+    go (Ok x) e = refl
+    go (Err x) e = e
 
 -- the whole session, or one that was broken off
-pub ran_broken : {t : Lent} {h : Held} (h' : Held) (k k' : Known) (places : ℕ) (new : List ℕ) (e : Error) (p : Result ⊤ Error) → p ≡ Err e → lent_long t ≡ true → kept_length ≤ length h.line → OpenEnsures t h
-    → AllRead places h h' k k' (Err e) → Concluded t (lent_of h') new p
-unfolding AllRead Concluded
-ran_broken {t} {h} h' k k' places new e p q long room opens read = subst (Concluded t (lent_of h') new) (sym q) (go e read)
-  where
-    go : (x : Error) → AllRead places h h' k k' (Err x) → Concluded t (lent_of h') new (Err x)
-    go (error.ReadFailed x) r =
-        record {
-          last = h';
-          broken = record {
-            number = r.number;
-            bytes = r.fed.bytes;
-            reads = r.fed.reads;
-            reached = reached_on (reached-first long room opens) r.fed.fed;
-          };
-          leaves = refl;
-        }
-    go (error.WriteFailed x) r = tt
-    go error.TooLong r = record { last = h'; broken = r.on t [] (reached-first long room opens); leaves = refl }
-
-pub ran_all : {t : Lent} {h : Held} (h' : Held) (k k' : Known) (places : ℕ) (old new : List ℕ) (left : Lent) (w : Option (List ℕ)) (x : ⊤) (p : Result ⊤ Error) → lent_long t ≡ true
-    → kept_length ≤ length h.line → OpenEnsures t h → finish_room ≤ length old → AllRead places h h' k k' (Ok x) → Concludes h' old left new k'.holds w p → Concluded t left new p
+pub ran_by : {t : Lent} {h : Held} (h' h'' : Held) (k k' : Known) (places : ℕ) (old new : List ℕ) (w : Option (List ℕ)) (read p : Result ⊤ Error) → lent_long t ≡ true → kept_length ≤ length h.line → OpenEnsures t h
+    → finish_room ≤ length old → AllRead places h h' k k' read → IfErr read (λ e. p ≡ Err e) → OnErr read (h'' ≡ h') → OnOk read (Concludes h' old (lent_of h'') new k'.holds w p) → Concluded t (lent_of h'') new p
 unfolding AllRead Concludes Concluded
-ran_all {t} {h} h' k k' places old new left w x p long room opens finish read = go p
+ran_by {t} {h} h' h'' k k' places old new w read p long room opens finish reads q still c = go read p reads q still c
   where
-    go : (q : Result ⊤ Error) → Concludes h' old left new k'.holds w q → Concluded t left new q
-    go (Ok y) f =
-        record {
-          number = read.0.number;
-          bytes = read.0.fed.bytes;
-          reads = read.0.fed.reads;
-          ran = ran-all finish (reached_on (reached-first long room opens) read.0.fed.fed) f.finish;
-        }
-    go (Err (error.ReadFailed x)) f = absurd f
-    go (Err (error.WriteFailed x)) f = tt
-    go (Err error.TooLong) f = absurd f
+    at_first : Reached t [] h
+    at_first = reached-first long room opens
+
+    go : (r : Result ⊤ Error) (p : Result ⊤ Error) → AllRead places h h' k k' r → IfErr r (λ e. p ≡ Err e) → OnErr r (h'' ≡ h') → OnOk r (Concludes h' old (lent_of h'') new k'.holds w p) → Concluded t (lent_of h'') new p
+    go (Ok x) (Ok y) a e s f =
+        record { number = a.0.number; bytes = a.0.fed.bytes; reads = a.0.fed.reads; ran = ran-all finish (reached_on at_first a.0.fed.fed) f.finish }
+    go (Ok x) (Err (error.ReadFailed y)) a e s f = absurd f
+    go (Ok x) (Err (error.WriteFailed y)) a e s f = tt
+    go (Ok x) (Err error.TooLong) a e s f = absurd f
+    go (Err (error.ReadFailed x)) p a e s f =
+        subst (Concluded t (lent_of h'') new) (sym e)
+        (record {
+          last = h';
+          broken = record { number = a.number; bytes = a.fed.bytes; reads = a.fed.reads; reached = reached_on at_first a.fed.fed };
+          leaves = ap lent_of s;
+        })
+    go (Err (error.WriteFailed x)) p a e s f = subst (Concluded t (lent_of h'') new) (sym e) tt
+    go (Err error.TooLong) p a e s f =
+        subst (Concluded t (lent_of h'') new) (sym e) (record { last = h'; broken = a.on t [] at_first; leaves = ap lent_of s })
 
 -- a reader that is at its end gave all that it had
 all_given : (P : List ℕ → Type 0) (a b : Option (List ℕ)) (bytes : List ℕ) → Consumes a b bytes → IsAtEnd b → P bytes → IfSome a P
@@ -347,17 +342,17 @@ all_given P (Some x) None bytes given end p = absurd given
 all_given P (Some x) (Some y) bytes given end p = subst P (sym (given ∙ ap (λ (l : List ℕ). bytes ++ l) end ∙ append-nil bytes)) p
 
 -- and then the session of just that was written
-pub ran_written : {t : Lent} {h : Held} (h' : Held) (k k' : Known) (places : ℕ) (old new : List ℕ) (left : Lent) (w : Option (List ℕ)) (x : ⊤) (p : Result ⊤ Error) → lent_long t ≡ true
-    → kept_length ≤ length h.line → OpenEnsures t h → finish_room ≤ length old → AllRead places h h' k k' (Ok x) → Concludes h' old left new k'.holds w p → 0 < places
+pub written_by : {t : Lent} {h : Held} (h' : Held) (k k' : Known) (places : ℕ) (old new : List ℕ) (left : Lent) (w : Option (List ℕ)) (read p : Result ⊤ Error) → lent_long t ≡ true
+    → kept_length ≤ length h.line → OpenEnsures t h → finish_room ≤ length old → AllRead places h h' k k' read → IfErr read (λ e. p ≡ Err e) → OnOk read (Concludes h' old left new k'.holds w p) → 0 < places
     → OnOk p (IfSome k.ahead (λ xs. Appends k.holds w (session_output xs)))
 unfolding AllRead Concludes
-ran_written {t} {h} h' k k' places old new left w x p long room opens finish read concluded some = go p concluded
+written_by {t} {h} h' k k' places old new left w read p long room opens finish reads q concluded some = go read p reads q concluded
   where
-    go : (q : Result ⊤ Error) → Concludes h' old left new k'.holds w q → OnOk q (IfSome k.ahead (λ xs. Appends k.holds w (session_output xs)))
-    go (Ok y) f =
-        let fed = read.0.fed.fed in
-        let whole : fed.text ++ take f.filled new ≡ session_output read.0.fed.bytes =
-        whole_session read.0.fed.bytes (fed.text ++ take f.filled new)
+    go : (r p : Result ⊤ Error) → AllRead places h h' k k' r → IfErr r (λ e. p ≡ Err e) → OnOk r (Concludes h' old left new k'.holds w p) → OnOk p (IfSome k.ahead (λ xs. Appends k.holds w (session_output xs)))
+    go (Ok x) (Ok y) a e f =
+        let fed = a.0.fed.fed in
+        let whole : fed.text ++ take f.filled new ≡ session_output a.0.fed.bytes =
+        whole_session a.0.fed.bytes (fed.text ++ take f.filled new)
         (record {
           text = fed.text;
           last = h';
@@ -370,9 +365,10 @@ ran_written {t} {h} h' k k' places old new left w x p long room opens finish rea
           finish = f.finish;
           all = refl;
         }) in
-        all_given (λ xs. Appends k.holds w (session_output xs)) k.ahead k'.ahead read.0.fed.bytes read.0.fed.given (read.1 some)
+        all_given (λ xs. Appends k.holds w (session_output xs)) k.ahead k'.ahead a.0.fed.bytes a.0.fed.given (a.1 some)
         (subst (Appends k.holds w) whole (Appends-trans k.holds k'.holds w fed.text (take f.filled new) fed.written f.written))
-    go (Err e) f = tt
+    go (Ok x) (Err y) a e f = tt
+    go (Err x) p a e f = subst (λ (r : Result ⊤ Error). OnOk r (IfSome k.ahead (λ xs. Appends k.holds w (session_output xs)))) (sym e) tt
 
 -- the claim about a run to its end
 pub whole_run : WholeRun

@@ -1,7 +1,7 @@
 -- What the program's functions promise: that they put the session's three functions together as its claim assumes
 -- (`Whole` of `session`), and what they decide on what `read` and `write_all` returned.
 -- Assumes nothing.
-use Rattle.std.specs.Prelude.{ℕ, zero, suc, ◌+◌, ◌<◌, ◌≡◌, Bool, true, false, List, [], ◌++◌, length, take, ⊤, Option, Some, None, Result, Ok, Err, IsOk, OnOk}
+use Rattle.std.specs.Prelude.{ℕ, zero, suc, ◌+◌, ◌<◌, ◌≡◌, Bool, true, false, List, [], ◌++◌, length, take, ⊤, Option, Some, None, Result, Ok, Err, IsOk, OnOk, OnErr}
 use Rattle.std.specs.Io.KnownBytes.{Keeps, Appends, Consumes, IsAtEnd}
 use Rattle.session.specs.Meaning.{session_output}
 use Rattle.session.specs.Promises.{Held, Lent, lent_of, OpenEnsures, FinishEnsures}
@@ -190,8 +190,8 @@ abbrev pub after_reads : Result ⊤ Error → Result ⊤ Error → Result ⊤ Er
 after_reads (Ok x) totals = totals
 after_reads (Err e) totals = Err e
 
--- run, with so many places to read into: opened on these, all read, and concluded where the input ended; the reads
--- ended as the last of them says, and a write failed exactly where the last one said so
+-- run, with so many places to read into: opened on these, all read, and concluded where the input ended, or nothing
+-- written after that; the reads ended as the last of them says, and a write failed exactly where the last one said so
 pub record Ended (places : ℕ) (lent left : Lent) (new : List ℕ) (k k' : Known) (got : Option ℕ) (said : Bool) (p : Result ⊤ Error) : Type 0 where
   pub first : Held
   pub opens : OpenEnsures lent first
@@ -203,6 +203,7 @@ pub record Ended (places : ℕ) (lent left : Lent) (new : List ℕ) (k k' : Know
   pub old : List ℕ
   pub totals : Result ⊤ Error
   pub concludes : OnOk read (Concludes last old left new midway.holds k'.holds totals)
+  pub unwritten : OnErr read (Keeps midway.holds k'.holds)
   pub ends : p ≡ after_reads read totals
   pub told : WriteTold p said
 

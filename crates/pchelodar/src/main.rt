@@ -2,9 +2,9 @@
 
 // The session program (document 01, "Session lines"): it reads standard input, calls the session, and writes standard
 // output.
-ghost use Rattle.std.specs.Prelude.{◌≡◌, true, ◌<◌, ◌≤◌, length, take, IfOk, OnOk, IfSome};
+ghost use Rattle.std.specs.Prelude.{◌≡◌, true, ◌<◌, ◌≤◌, length, take, Err, IfOk, OnOk, IfErr, OnErr, IfSome};
 ghost use Rattle.std.specs.Io.{ReadsAtMost};
-ghost use Rattle.std.specs.Io.KnownBytes.{Appends};
+ghost use Rattle.std.specs.Io.KnownBytes.{Appends, Keeps};
 ghost use Rattle.parse.specs.Kept.{kept_length};
 ghost use Rattle.session.specs.Meaning.{session_output};
 ghost use Rattle.session.specs.Promises.{lent_long, lent_of, finish_room};
@@ -190,14 +190,19 @@ impl Memory<'_> {
         Err(Error::TooLong)
     }
 
-    // The end of the input: what a last line prints, and the totals.
-    fn conclude<W: Write>(&mut self, output: &mut W) -> Result<(), Error>
+    // What follows the reads, by what they came to: at the end of the input what a last line prints, and the totals.
+    // Any other end is the run's own, and then nothing changes or is written.
+    fn conclude<W: Write>(&mut self, read: Result<(), Error>, output: &mut W) -> Result<(), Error>
         ensures same { SameMemory self.old self.new }
-        ensures concluded { Concludes (held_of self.old) self.old.out.now (lent_of (held_of self.new)) self.new.out.now
-            (W.contents output.old) (W.contents output.new) result }
-        ensures told { WriteTold result self.new.said }
+        ensures ends { IfErr read (λ e. result ≡ Err e) }
+        ensures still { OnErr read (held_of self.new ≡ held_of self.old) }
+        ensures unwritten { OnErr read (Keeps (W.contents output.old) (W.contents output.new)) }
+        ensures concluded { OnOk read (Concludes (held_of self.old) self.old.out.now
+            (lent_of (held_of self.new)) self.new.out.now (W.contents output.old) (W.contents output.new) result) }
+        ensures told { WriteTold read self.old.said → WriteTold result self.new.said }
         ensures got { self.new.got ≡ self.old.got }
     {
+        read?;
         let at = session::stream::finish(
             self.session,
             self.list,
@@ -230,8 +235,8 @@ impl Memory<'_> {
         self.said = true;
         self.got = Some(0);
         self.session = session::stream::open(self.list, &mut self.tables);
-        self.read_all(input, chunk, output)?;
-        self.conclude(output)
+        let read = self.read_all(input, chunk, output);
+        self.conclude(read, output)
     }
 }
 
