@@ -53,6 +53,10 @@ texts_more : (n : ℕ) (given : List Answer) (a : Answer) → answer_texts n (gi
 texts_more n [] a = append-nil (answer_text n a)
 texts_more n (b ∷ bs) a = rw (texts_more n bs a, append_assoc)
 
+-- what is printed of an answer is printed of the same one
+pub same_printed : (n : ℕ) (d e : Answer) {m o : List ℕ} {b c : ℕ} → Put m b (answer_text n d) o c → d ≡ e → Put m b (answer_text n e) o c
+same_printed n d e q same = rw same at q
+
 -- after i answers, one more
 pub answers-printed : (n i : ℕ) (t : List ℤ) {l m o : List ℕ} {a b c : ℕ} → Put l a (answer_texts n (answers_in i t)) m b → Put m b (answer_text n (answer_at t i)) o c → Put l a (answer_texts n (answers_in (i + 1) t)) o c
 answers-printed n i t p q =
