@@ -2,7 +2,7 @@
 -- Assumes nothing.
 use Rattle.std.proofs.Common.{ℕ, zero, suc, ◌+◌, ◌-◌, ◌<◌, ◌≤◌, ◌≡◌, refl, sym, ap, subst, ◌∙◌, arith, List, [], ◌++◌, append_assoc, append-nil, length, take, drop, length-append, take-append-drop, Bool, Option, Some, None, IfSome, OnOk, OnErr, IfErr, Result, Ok, Err, MatchResult, true}
 use lib.Seq.{slice_empty}
-use Rattle.std.specs.Prelude.{⊤, is_ok}
+use Rattle.std.specs.Prelude.{⊤}
 use Rattle.std.proofs.lemmas.List.{take_rest}
 use Rattle.std.specs.Io.{ReadsAtMost}
 use Rattle.std.specs.Io.KnownBytes.{Keeps, Appends, Consumes, IsAtEnd, ReadConsumes}
@@ -16,23 +16,9 @@ use Rattle.session.proofs.Composing.{fed_then, carries_nothing, limit_many, limi
 use Rattle.std.specs.declared.io.Error as io
 use Rattle.pchelodar.specs.declared.Error.{Error}
 use Rattle.pchelodar.specs.declared.Error.TheVariants as error
-use Rattle.pchelodar.specs.Promises.{after_write, after_feed, after_reads, Wrote, FedOn, StepFed, ChunkFed, read_of, count_of, brought, Failed, FoundEnd, BroughtFed, AfterRead, Heard, Intake, none, next, Known, known, ReadsFed, SomeFed, AllRead, Concludes, Ended, Concluded, WholeRun, WriteTold, ReadHeard}
+use Rattle.pchelodar.specs.Promises.{after_feed, after_reads, Wrote, FedOn, StepFed, ChunkFed, read_of, count_of, brought, Failed, FoundEnd, BroughtFed, AfterRead, Heard, Intake, none, next, Known, known, ReadsFed, SomeFed, AllRead, Concludes, Ended, Concluded, WholeRun, WriteTold, ReadHeard}
 
 -- ---- what a write said
-
--- what was written, by what the write said
-pub wrote : (bytes : List ℕ) (w w' : Option (List ℕ)) (said : Result ⊤ io.Error) (p : Result ⊤ Error) → p ≡ after_write said → OnOk said (Appends w w' bytes) → Wrote bytes w w' p
-unfolding Wrote
-wrote bytes w w' said p e written = subst (Wrote bytes w w') (sym e) (go said written)
-  where
-    go : (s : Result ⊤ io.Error) → OnOk s (Appends w w' bytes) → Wrote bytes w w' (after_write s)
-    go (Ok x) a = a
-    go (Err x) a = tt
-
--- what follows a write, by whether it said that it succeeded
-pub told : (said : Result ⊤ io.Error) → WriteTold (after_write said) (is_ok said)
-told (Ok x) = refl
-told (Err e) = refl
 
 -- where the write failed
 pub step_failed : (bytes : List ℕ) (h h' : Held) (printed : List ℕ) (w w' : Option (List ℕ)) (e : Error) (p : Result ℕ Error) → p ≡ Err e → Wrote printed w w' (Err e) → StepFed bytes h h' w w' p

@@ -86,7 +86,7 @@ impl Memory<'_> {
     }
 
     // What was printed, so many bytes, is written. Nothing changes but what is known of the last write.
-    #[tactic(auto, using(crate::proofs::Composing::wrote, crate::proofs::Composing::told))]
+    #[tactic(auto, unfolding(crate::specs::Promises::Wrote))]
     fn write<W: Write>(&mut self, at: usize, output: &mut W) -> Result<(), Error>
         requires within { at ≤ length self.old.out.now }
         ensures same { SameMemory self.old self.new }
