@@ -19,7 +19,8 @@ use window::count::Count;
 // How many numbers a state is written as.
 pub const STATE_NUMBERS: usize = 18;
 
-// A count, as it is; a number outside its width is read as 0. No other function here makes a count of a number.
+// A count, as it is; a number outside its width is read as 0. No other function here reads a count from a number:
+// `within_widths` asks only whether there is one.
 fn count_in(w: u64) -> Count
     ensures { result ≡ count_in w }
 {
