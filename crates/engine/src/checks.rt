@@ -16,8 +16,8 @@ use window::count::Count;
 use window::query::Registration;
 use window::refusal::Refusal;
 
-// Checks 1 and 2. What passes is the list with the state's used records. Inlined, since else each call lays out its state
-// and the slices of its tables in memory once more, for this function alone.
+// Checks 1 and 2. What passes is the list with the state's used records. Inlined, since else each call lays out its
+// state and the slices of its tables in memory once more, for this function alone.
 #[inline(always)]
 pub(crate) fn judge_entry<'a>(
     state: State,

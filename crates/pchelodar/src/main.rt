@@ -77,7 +77,8 @@ struct Memory<'a> {
 impl Memory<'_> {
     ghost use Rattle.pchelodar.specs.Memories.{held_of, SameMemory};
 
-    // What was printed, so many bytes.
+    // What was printed, so many bytes. It is lent by a function, since of a slice that is lent out of a `&mut` struct in
+    // place the proof does not know that it holds what it held.
     fn printed(&self, at: usize) -> &[u8]
         requires within { at ≤ length self.now.out.now }
         ensures { result.now ≡ take at self.now.out.now }
